@@ -1,0 +1,16 @@
+pub mod Tabulated
+pub mod Codes
+pub mod Carried
+pub mod EndlessRun
+pub mod FirstFrom
+pub mod Runs
+pub mod Bits
+pub mod Kept
+pub mod GoesOn
+pub mod KeptNibbles
+pub mod KeptByKeys
+pub mod WordValues
+pub mod Roots
+pub mod Rotations
+pub mod Registers
+pub mod WholeAnswers
