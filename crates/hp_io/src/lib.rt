@@ -1,0 +1,21 @@
+//! Sources and sinks of bytes that count their faults. Whatever reads or writes in this project is
+//! generic over the two traits, and so is proved once for streams in memory and for the real ones.
+#![tactic(auto)]
+
+mod failures;
+mod limited;
+mod memory_sink;
+mod memory_source;
+mod sinks;
+mod sources;
+mod standard;
+#[cfg(test)]
+mod tests;
+
+pub use failures::{Failed, NoMemory};
+pub use limited::{Bytes, ReadStop, Taken, read_limited};
+pub use memory_sink::MemSink;
+pub use memory_source::MemSource;
+pub use sinks::{Sink, write_whole};
+pub use sources::{Source, next_byte};
+pub use standard::{StdSink, StdSource};
