@@ -1,0 +1,13 @@
+//! Word sizes, integer modes, and words as numbers.
+#![tactic(auto)]
+
+pub mod answer;
+pub mod content;
+pub mod size;
+pub mod word;
+
+pub use answer::Error0;
+pub use content::Content;
+pub use hp_model::{Answer, Base, Mode};
+pub use size::WordSize;
+pub use word::{Word, fits, low};
