@@ -1,7 +1,7 @@
 #!/usr/bin/env python3
 """Writes the statements of the crate key_file_examples from the key files in crates/keys_trials/data.
 
-Each case of operations.txt and programs.txt is a key file with the display of each line. It becomes
+Each case of operations.txt, programs.txt and teaching.txt is a key file with the display of each line. It becomes
 one field of a record in specs/, and the field's proof, by computation, in proofs/laws/.
 
 usage: scripts/state_key_files.py     at the top of the repository; it replaces the files it wrote before
@@ -74,6 +74,7 @@ def main():
     shutil.rmtree(CRATE / "proofs/laws", ignore_errors=True)
     names = state("Operations", cases(DATA / "operations.txt"))
     names += state("Programs", cases(DATA / "programs.txt"))
+    names += state("Teaching", cases(DATA / "teaching.txt"))
     write(CRATE / "specs/Lib.antt", "".join(f"pub mod {name}\n" for name in names))
     uses = "".join(f"ghost use Rattle.key_file_examples.specs.{name}.{{{name}}};\n" for name in names)
     laws = "\n".join(

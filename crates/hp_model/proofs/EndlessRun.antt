@@ -1,5 +1,6 @@
 -- A run that doesn't end by itself.
 use Rattle.std.specs.Prelude.{◌≡◌, ℕ, zero, suc, ◌*◌, [], ◌∷◌, codes, None, refl}
+use Rattle.std.specs.Fmt.{digits}
 use Rattle.std.proofs.Common.{◌∙◌, suc-mul}
 use native.Mathlib.Numerals.{add-two}
 use Rattle.hp_model.specs.State.{Machine, reset}
@@ -27,4 +28,5 @@ unfolding lines_per_key
 runs_on = late_at 100000 50000 refl
 
 pub endless_run : Prints (codes "g R/S g GTO 0 GTO 0 g R/S\nGSB 0\n") (codes "0 h\nError 8\n")
+unfolding digits
 endless_run = rw runs_on refl

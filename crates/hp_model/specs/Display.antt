@@ -106,7 +106,7 @@ display_of Normal s = if s.programming then program_text s else run_text s.machi
 display_of (Show base) s = run_text base 0 s
 display_of Status s = status_text s.machine
 display_of Mem s = memory_text s.machine.control
-display_of (Failed n) s = codes "Error " ++ digit_text n
+display_of (Failed n) s = codes "Error " ++ decimal n
 
 abbrev pub display : Calculator → List ℕ
 display s = display_of s.view s

@@ -17,3 +17,4 @@ pub mod Programs1
 pub mod Programs2
 pub mod Programs3
 pub mod Programs4
+pub mod Teaching1

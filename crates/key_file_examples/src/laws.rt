@@ -18,6 +18,7 @@ ghost use Rattle.key_file_examples.specs.Programs1.{Programs1};
 ghost use Rattle.key_file_examples.specs.Programs2.{Programs2};
 ghost use Rattle.key_file_examples.specs.Programs3.{Programs3};
 ghost use Rattle.key_file_examples.specs.Programs4.{Programs4};
+ghost use Rattle.key_file_examples.specs.Teaching1.{Teaching1};
 
 /// The definitions print what these key files are said to print.
 pub fn operations1()
@@ -112,4 +113,9 @@ pub fn programs3()
 /// The definitions print what these key files are said to print.
 pub fn programs4()
     ensures { Programs4 }
+{}
+
+/// The definitions print what these key files are said to print.
+pub fn teaching1()
+    ensures { Teaching1 }
 {}
