@@ -1,0 +1,2 @@
+pub use Rattle.hp_model.specs.Words
+pub mod Places

@@ -1,0 +1,39 @@
+// Counts and places that a word gives by its magnitude.
+ghost use Rattle.std.specs.Prelude.{◌≡◌, ◌<◌, ◌≤◌, ◌↔◌, IsErr, IfOk};
+ghost use Rattle.hp_model.specs.Words.{magnitude};
+
+use hp_words::Word;
+use thiserror::Error;
+
+/// A count above the word size, or a bit number at or above it: Error 2.
+#[derive(Clone, Copy, Debug, PartialEq, Eq, Error)]
+#[error("Error 2")]
+pub struct Error2;
+
+/// The magnitude of a word, which is to be at most its size.
+pub fn count_in(x: Word) -> Result<u8, Error2>
+    ensures refused { IsErr result ↔ (x.size.bits < magnitude x.size.bits x.mode x.pattern) }
+    ensures value { IfOk result (λ n. n ≡ magnitude x.size.bits x.mode x.pattern) }
+    ensures bound { IfOk result (λ n. n ≤ x.size.bits) }
+{
+    let magnitude = x.value().unsigned_abs();
+    if magnitude > x.size.bits as u128 {
+        Err(Error2)
+    } else {
+        Ok(magnitude as u8)
+    }
+}
+
+/// The magnitude of a word, which is to be the number of one of its bits.
+pub fn bit_in(x: Word) -> Result<u8, Error2>
+    ensures refused { IsErr result ↔ (x.size.bits ≤ magnitude x.size.bits x.mode x.pattern) }
+    ensures value { IfOk result (λ n. n ≡ magnitude x.size.bits x.mode x.pattern) }
+    ensures bound { IfOk result (λ n. n < x.size.bits) }
+{
+    let magnitude = x.value().unsigned_abs();
+    if magnitude >= x.size.bits as u128 {
+        Err(Error2)
+    } else {
+        Ok(magnitude as u8)
+    }
+}
