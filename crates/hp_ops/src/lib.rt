@@ -1,0 +1,18 @@
+//! The operations of the machine, one for each form of the operation table of the HP-16C Owner's
+//! Handbook's integer modes: 225 in all, with their codes and listing texts.
+#![tactic(auto)]
+
+mod asks;
+mod codes;
+pub mod groups;
+pub mod numbers;
+mod of_codes;
+pub mod op;
+mod texts;
+
+pub use groups::{
+    Arithmetic, Bits, Double, Flags, Jump, Logic, Loop, Place, Registers, Rotation, Setting, Shift,
+    Stack, Target, Test, Windows,
+};
+pub use numbers::{Flag, HexDigit, Register, Window};
+pub use op::{AskKind, Op};
