@@ -1,0 +1,4 @@
+pub mod Machines
+pub mod Begun
+pub mod Moves
+pub mod FromLines

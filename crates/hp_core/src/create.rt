@@ -1,0 +1,68 @@
+// Machines to begin with.
+ghost use Rattle.std.specs.Prelude.{◌≡◌, ◌-◌, ◌^◌, ◌≤◌};
+ghost use Rattle.hp_model.specs.State.{reset};
+ghost use Rattle.hp_core.specs.Machines.{machine_of};
+ghost use Rattle.hp_core.specs.Begun.{begun};
+
+use crate::calls::Calls;
+use crate::machine::{Control, Machine};
+use hp_nibbles::Memory;
+use hp_words::{Base, Content, Mode, WordSize};
+
+impl Machine {
+    /// The machine after a full reset.
+    pub fn new() -> Machine
+        ensures { machine_of result ≡ reset }
+    {
+        let content = Content {
+            x: 0,
+            y: 0,
+            z: 0,
+            t: 0,
+            l: 0,
+            i: 0,
+            flags: [false; 6],
+        };
+        let mut machine = Machine::begin(
+            WordSize { bits: 16 },
+            Mode::Twos,
+            Base::Hex,
+            Memory::new(),
+            content,
+        );
+        machine.control.line = 0;
+        machine
+    }
+
+    /// A machine at line 1, with nothing pending, lift enabled and no entry.
+    pub fn begin(
+        size: WordSize,
+        mode: Mode,
+        base: Base,
+        memory: Memory,
+        content: Content,
+    ) -> Machine
+        requires x { content.x ≤ 2 ^ size.bits - 1 }
+        requires y { content.y ≤ 2 ^ size.bits - 1 }
+        requires z { content.z ≤ 2 ^ size.bits - 1 }
+        requires t { content.t ≤ 2 ^ size.bits - 1 }
+        requires l { content.l ≤ 2 ^ size.bits - 1 }
+        ensures { machine_of result ≡ begun size.bits mode base memory content }
+    {
+        let control = Control {
+            size,
+            mode,
+            base,
+            line: 1,
+            calls: Calls::new(),
+            lift: true,
+            entry: None,
+            window: 0,
+        };
+        Machine {
+            control,
+            content,
+            memory,
+        }
+    }
+}

@@ -1,0 +1,92 @@
+// Shifts and rotations.
+ghost use Rattle.std.specs.Prelude.{◌≡◌, ◌^◌, ◌<◌, ◌↔◌, IsErr, IfOk};
+ghost use Rattle.hp_model.specs.State.{carry as carry_of};
+ghost use Rattle.hp_model.specs.Asks.{x_magnitude};
+ghost use Rattle.hp_model.specs.Rows.{rotated_of, rotated_times_of};
+ghost use Rattle.hp_model.specs.Operations as ops;
+ghost use Rattle.hp_ops.specs.Meaning.{of_shift, way};
+ghost use Rattle.hp_core.specs.Machines.{Steps, control_of, data_of};
+
+use crate::answers::{answer_two, answer_x};
+use crate::machine::Machine;
+use crate::moves::{fail, finish, lift, save};
+use crate::words::{x_word, y_word};
+use hp_bits::{Error2, asr, left_justify, rl, rlc, rlcn, rln, rr, rrc, rrcn, rrn, sl, sr};
+use hp_model::{Answer, Stop};
+use hp_ops::{Rotation, Shift};
+
+/// X shifted to the left until its top bit is 1, in Y, and by how many places, in X.
+fn step_left_justify(machine: &mut Machine) -> Stop
+    ensures { Steps machine.old machine.new result ops.left_justify }
+{
+    let (word, count) = left_justify(x_word(machine));
+    finish(&mut machine.control, true);
+    save(&mut machine.content);
+    lift(&mut machine.content);
+    machine.content.y = word;
+    machine.content.x = count;
+    Stop::Go
+}
+
+/// A shift of X.
+pub fn step_shift(machine: &mut Machine, op: Shift) -> Stop
+    ensures { Steps machine.old machine.new result (of_shift op) }
+{
+    let x = x_word(machine);
+    match op {
+        Shift::Left => answer_x(machine, sl(x)),
+        Shift::Right => answer_x(machine, sr(x)),
+        Shift::Arithmetic => answer_x(machine, asr(x)),
+        Shift::Justify => step_left_justify(machine),
+    }
+}
+
+/// X rotated by one place.
+fn rotated(machine: &Machine, op: Rotation) -> Answer
+    ensures value { result ≡ rotated_of (way op) machine.now.control.size.bits machine.now.content.x (carry_of (data_of machine.now)) }
+    ensures bound { result.pattern < 2 ^ machine.now.control.size.bits }
+{
+    let x = x_word(machine);
+    let carry = machine.content.flags[4];
+    match op {
+        Rotation::Left => rl(x),
+        Rotation::Right => rr(x),
+        Rotation::LeftCarry => rlc(x, carry),
+        Rotation::RightCarry => rrc(x, carry),
+    }
+}
+
+/// A rotation of X by one place.
+pub fn step_rotate(machine: &mut Machine, op: Rotation) -> Stop
+    ensures { Steps machine.old machine.new result (ops.rotate (way op)) }
+{
+    let answer = rotated(machine, op);
+    answer_x(machine, answer)
+}
+
+/// Y rotated by as many places as X says.
+fn rotated_many(machine: &Machine, op: Rotation) -> Result<Answer, Error2>
+    ensures refused { IsErr result ↔ (machine.now.control.size.bits < x_magnitude (control_of machine.now) (data_of machine.now)) }
+    ensures value { IfOk result (λ answer. answer ≡ rotated_times_of (way op) machine.now.control.size.bits (x_magnitude (control_of machine.now) (data_of machine.now)) machine.now.content.y (carry_of (data_of machine.now))) }
+    ensures bound { IfOk result (λ answer. answer.pattern < 2 ^ machine.now.control.size.bits) }
+{
+    let x = x_word(machine);
+    let y = y_word(machine);
+    let carry = machine.content.flags[4];
+    match op {
+        Rotation::Left => rln(y, x),
+        Rotation::Right => rrn(y, x),
+        Rotation::LeftCarry => rlcn(y, x, carry),
+        Rotation::RightCarry => rrcn(y, x, carry),
+    }
+}
+
+/// Y rotated by as many places as X says, or Error 2 above the word size.
+pub fn step_rotate_many(machine: &mut Machine, op: Rotation) -> Stop
+    ensures { Steps machine.old machine.new result (ops.rotate_many (way op)) }
+{
+    match rotated_many(machine, op) {
+        Ok(answer) => answer_two(machine, answer),
+        Err(_) => fail(&mut machine.control, 2),
+    }
+}
