@@ -1,0 +1,1 @@
+pub use Rattle.hp_model.specs.Memory
