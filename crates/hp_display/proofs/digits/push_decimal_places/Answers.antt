@@ -1,0 +1,13 @@
+use Rattle.std.proofs.Common.{◌+◌, arith}
+use Rattle.hp_display.proofs.Powers.{places_step}
+use Rattle.hp_display.proofs.Decimals.{has_place}
+use Rattle.hp_display.proofs.digits.push_decimal_places.Goals as goal
+
+pub loop-j-preserved : goal.loop-j-preserved
+loop-j-preserved c = record {
+  so_far = places_step _ _ _ _ c.loop-j.j _ _ _ (omega arith) c.loop-j.invariant.so_far c.push_decimal_place.ensures.text;
+  len = omega (arith, c.loop-j.invariant.len, c.push_decimal_place.ensures.len);
+}
+
+pub returns-clause-more : goal.returns-clause-more
+returns-clause-more c = rw (c.as_bytes-digits.ensures.value, c.format.ensures.text) (has_place (c.args.first + 8) c.args.n (omega arith))

@@ -1,0 +1,2 @@
+pub use Rattle.hp_model.specs.Display
+pub mod Shifts
