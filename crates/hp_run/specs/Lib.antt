@@ -1,0 +1,4 @@
+pub mod Ends
+pub mod Calculators
+pub mod Seen
+pub mod Jumped
