@@ -1,0 +1,7 @@
+//! Key files: the keys of their words are pressed on a new calculator, and each line gives its display.
+#![tactic(auto)]
+
+mod reading;
+pub mod sessions;
+
+pub use sessions::{SessionEnd, session};
