@@ -1,0 +1,9 @@
+pub mod Literals
+pub mod Derivation
+pub mod Checking
+pub mod Words
+pub mod LratText
+pub mod Dimacs
+pub mod Verdict
+pub mod LratCommand
+pub mod WorkedProofs

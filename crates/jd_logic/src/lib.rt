@@ -1,0 +1,34 @@
+//! What a proof is: clauses, derivations from them, and the texts that hold both. The definitions
+//! stand in `specs/`; the types that definitions and code share stand here. DIMACS CNF and LRAT are
+//! read in their common text forms.
+#![tactic(auto)]
+
+pub mod answers;
+pub mod laws;
+pub mod lists;
+
+pub use answers::{BadLine, Verdict};
+pub use lists::{Clause, Hints, Ids};
+
+/// A line of an LRAT proof.
+#[derive(Drop)]
+pub enum Line {
+    /// A clause that follows from those of the hints, in their order. The id is 1 to 2^63 - 1.
+    Derive {
+        id: u64,
+        clause: Clause,
+        hints: Hints,
+    },
+    /// Clauses that are given up.
+    Delete {
+        ids: Ids,
+    },
+}
+
+/// What is left of a clause once its false literals are taken away.
+#[derive(Clone, Copy, Debug, PartialEq, Eq)]
+pub enum Left {
+    Nothing,
+    One(i32),
+    Several,
+}

@@ -1,0 +1,13 @@
+pub mod Marked
+pub mod Kept
+pub mod Joined
+pub mod Answers
+pub mod Parts
+pub mod Integers
+pub mod TextLines
+pub mod NumberLists
+pub mod Ranges
+pub mod LineTexts
+pub mod CnfTexts
+pub mod CnfAnswers
+pub mod Checks

@@ -1,0 +1,131 @@
+//! The checker of lines.
+ghost use Rattle.std.specs.Prelude.{◌≡◌, ℕ, ◌<◌, [], false, OnOk, IfOk};
+ghost use Rattle.jd_logic.specs.Literals.{AreLiterals, AreHints, AreIds};
+ghost use Rattle.jd_logic.specs.Checking.{begun, with_clause};
+ghost use Rattle.jd_logic.specs.declared.Line.TheVariants.{Derive, Delete};
+ghost use Rattle.jd_lrat.specs.Answers.{Answers};
+
+use crate::derivation::fault;
+use crate::marks::Marks;
+use crate::store::Store;
+use crate::{Clauses, LineFault, NoMemory};
+use jd_logic::{BadLine, Line};
+use std::alloc::Global;
+use std::marker::Model;
+
+/// Clauses by their ids, to which the lines of an LRAT proof are applied.
+#[derive(Drop)]
+pub struct Checker {
+    store: Store,
+    marks: Marks,
+    refuted: bool,
+    spent: bool,
+}
+
+impl Model for Checker {
+    ghost use Rattle.jd_lrat.specs.Kept.{Checking, checking_of};
+
+    ghost Value = { Checking };
+
+    ghost view = { λ c. checking_of c.store c.refuted c.spent };
+}
+
+impl Checker {
+    fn empty(alloc: Global) -> Checker
+        ensures state { result.state ≡ begun [] }
+        ensures fresh { result.spent ≡ false }
+    {
+        Checker {
+            store: Store::new(alloc),
+            marks: Marks::new(alloc),
+            refuted: false,
+            spent: false,
+        }
+    }
+
+    /// Whether the empty clause was given or derived. Its deletion doesn't undo that.
+    pub fn refuted(&self) -> bool
+        ensures { result ≡ self.now.state.refuted }
+    {
+        self.refuted
+    }
+
+    /// Puts a clause in, with an id of its own.
+    fn give(&mut self, id: u64, clause: &[i32]) -> Result<(), NoMemory>
+        requires fresh { self.old.state.greatest < id }
+        requires unspent { self.old.spent ≡ false }
+        requires literals { AreLiterals clause.now }
+        ensures { OnOk result (self.new ≡ record { state = with_clause self.old.state id clause.now; spent = false }) }
+    {
+        self.store.push(id, clause)?;
+        if clause.is_empty() {
+            self.refuted = true;
+        }
+        Ok(())
+    }
+
+    /// Applies a derivation.
+    fn derive(&mut self, id: u64, clause: &[i32], hints: &[i64]) -> Result<(), LineFault>
+        requires fresh { self.old.spent ≡ false }
+        requires literals { AreLiterals clause.now }
+        requires hints_in { AreHints hints.now }
+        ensures { Answers self.old (Derive id clause.now hints.now) result self.new }
+    {
+        let found = match fault(&self.store, &mut self.marks, id, clause, hints) {
+            Ok(found) => found,
+            Err(_) => {
+                self.spent = true;
+                return Err(LineFault::NoMemory);
+            }
+        };
+        match found {
+            Some(cause) => Err(LineFault::Bad(cause)),
+            None => match self.give(id, clause) {
+                Ok(()) => Ok(()),
+                Err(_) => {
+                    self.spent = true;
+                    Err(LineFault::NoMemory)
+                }
+            },
+        }
+    }
+
+    /// Applies a deletion.
+    fn delete(&mut self, ids: &[u64]) -> Result<(), LineFault>
+        requires fresh { self.old.spent ≡ false }
+        requires ids_in { AreIds ids.now }
+        ensures { Answers self.old (Delete ids.now) result self.new }
+    {
+        match self.store.delete(ids) {
+            None => Ok(()),
+            Some(id) => Err(LineFault::Bad(BadLine::NoClause(id as i64))),
+        }
+    }
+
+    /// Applies a line, or changes nothing where it isn't right. Once memory ran out the checker is
+    /// spent: every later line is answered `NoMemory`.
+    pub fn line(&mut self, line: &Line) -> Result<(), LineFault>
+        ensures { Answers self.old line.now result self.new }
+    {
+        if self.spent {
+            return Err(LineFault::NoMemory);
+        }
+        match line {
+            Line::Derive { id, clause, hints } => {
+                self.derive(*id, clause.literals(), hints.hints())
+            }
+            Line::Delete { ids } => self.delete(ids.ids()),
+        }
+    }
+
+    /// A checker with these clauses, whose ids are 1, 2 and so on.
+    pub fn new(alloc: Global, clauses: &Clauses) -> Result<Checker, NoMemory>
+        ensures { IfOk result (λ c. c ≡ record { state = begun clauses.now; spent = false }) }
+    {
+        let mut checker = Checker::empty(alloc);
+        for i in 0..clauses.len() {
+            checker.give(i as u64 + 1, clauses.clause(i))?;
+        }
+        Ok(checker)
+    }
+}
