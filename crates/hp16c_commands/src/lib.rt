@@ -1,0 +1,17 @@
+//! The commands of the program hp16c, and the call that does the one that the words name.
+#![tactic(auto)]
+
+mod calls;
+mod commands;
+mod key_files;
+mod outcomes;
+mod proof_files;
+mod refusals;
+#[cfg(test)]
+mod tests;
+
+pub use calls::hp16c;
+pub use commands::Command;
+pub use key_files::keys;
+pub use outcomes::{Kept, Outcome, Status};
+pub use proof_files::lrat;
