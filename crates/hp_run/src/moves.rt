@@ -1,15 +1,13 @@
 // Commands that neither run nor edit the program.
 ghost use Rattle.std.specs.Prelude.{◌≡◌, ◌≤◌, length, nat_lt, if◌then◌else◌};
 ghost use Rattle.hp_model.specs.Press.{failing, normally, without_entry, without_calls, taken_back, line_before as line_before_of, next_line as next_line_of, gone_to_line};
-ghost use Rattle.hp_model.specs.State.{radix as radix_of};
 ghost use Rattle.hp_model.specs.Run.{at_control_line};
 ghost use Rattle.hp_core.specs.Machines.{control_of, machine_of, KeepsLines};
 ghost use Rattle.hp_run.specs.Calculators.{shown_of};
 
-use hp_core::{Calls, Machine};
+use hp_core::{Calls, Machine, radix};
 use hp_edit::{before, goto_line, next};
 use hp_keys::View;
-use hp_model::Base;
 
 /// Ends digit entry, and shows a view.
 pub fn show(machine: &mut Machine, view: View) -> View
@@ -83,19 +81,6 @@ pub fn enter_program(machine: &mut Machine) -> View
         machine.control.line = 0;
     }
     View::Normal
-}
-
-/// The base as a number.
-fn radix(base: Base) -> u64
-    ensures value { result ≡ radix_of base }
-    ensures some { 2 ≤ result }
-{
-    match base {
-        Base::Hex => 16,
-        Base::Dec => 10,
-        Base::Oct => 8,
-        Base::Bin => 2,
-    }
 }
 
 /// Takes the last digit of the entry back, or clears X.
