@@ -156,10 +156,10 @@ impl Reading {
     }
 
     /// The file has ended.
-    pub fn finish<K: Sink>(&mut self, sink: &mut K) -> SessionEnd
-        requires word { length self.old.word < 8 }
-        requires line { self.old.line < 2 ^ 32 - 1 }
-        ensures finishes { Finishes result self.old (K.written sink.old) (K.written sink.new) }
+    pub fn finish<K: Sink>(mut self, sink: &mut K) -> SessionEnd
+        requires word { length self.word < 8 }
+        requires line { self.line < 2 ^ 32 - 1 }
+        ensures finishes { Finishes result self (K.written sink.old) (K.written sink.new) }
         ensures cause { result ≡ SessionEnd.WriteFault → Rose (K.faults sink.old) (K.faults sink.new) }
         ensures faults { K.faults sink.old ≤ K.faults sink.new }
     {
