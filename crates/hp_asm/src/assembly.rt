@@ -1,0 +1,98 @@
+// Assembly texts.
+ghost use Rattle.std.specs.Prelude.{◌≡◌, ◌+◌, ◌<◌, ◌≤◌, ◌^◌, ◌∷◌, [], ◌++◌, length, Ok, Err, OnOk, OnErr, IfOk, IfErr};
+ghost use Rattle.arrayvec.specs.ArrayString.{array_string_len};
+ghost use Rattle.jd_logic.specs.Words.{words_of};
+ghost use Rattle.jd_model.specs.Assembly.{text_of_code, with_operation, with_line, assembled, listing};
+
+use crate::faults::AsmFault;
+use crate::operations::{begins_text, code_of, is_float_key, text_of};
+use crate::routine::Routine;
+use arrayvec::ArrayString;
+use jd_model::AsmCause;
+use jd_text::{next_line, next_word};
+
+/// Adds the operation that a line is, whatever its first word.
+fn take_operation(routine: &mut Routine, line: &[u8]) -> Result<(), AsmCause>
+    ensures taken { OnOk result (with_operation routine.old (words_of line.now) ≡ Ok routine.new) }
+    ensures cause { IfErr result (λ cause. with_operation routine.old (words_of line.now) ≡ Err cause) }
+    ensures unchanged { OnErr result (routine.new ≡ routine.old) }
+{
+    match code_of(line) {
+        None => Err(AsmCause::BadOperand),
+        Some(code) => {
+            if routine.is_full() {
+                return Err(AsmCause::TooManyLines);
+            }
+            routine.push(code);
+            Ok(())
+        }
+    }
+}
+
+/// Adds the operation of one line of assembly, which has no line feed. A line without words adds
+/// nothing.
+pub fn take_line(routine: &mut Routine, line: &[u8]) -> Result<(), AsmCause>
+    ensures taken { OnOk result (with_line routine.old (words_of line.now) ≡ Ok routine.new) }
+    ensures cause { IfErr result (λ cause. with_line routine.old (words_of line.now) ≡ Err cause) }
+    ensures unchanged { OnErr result (routine.new ≡ routine.old) }
+{
+    match next_word(line, 0) {
+        None => Ok(()),
+        Some((word, _)) => {
+            if is_float_key(word) {
+                Err(AsmCause::FloatKey)
+            } else if begins_text(word) {
+                take_operation(routine, line)
+            } else {
+                Err(AsmCause::UnknownWord)
+            }
+        }
+    }
+}
+
+/// The routine that an assembly text is: on each line one operation, by its listing text. Words stand
+/// apart by blanks, tabs and CR, and lines without words are skipped.
+pub fn assemble(text: &[u8]) -> Result<Routine, AsmFault>
+    requires { length text.now + 1 < 2 ^ 32 }
+    ensures routine { IfOk result (λ routine. assembled text.now ≡ Ok routine) }
+    ensures fault { IfErr result (λ fault. assembled text.now ≡ Err (fault.line, fault.cause)) }
+{
+    let mut routine = Routine::new();
+    let mut at = 0;
+    let mut number = 1;
+    'lines: while let Some((line, next)) = next_line(text, at) {
+        match take_line(&mut routine, line) {
+            Ok(()) => {}
+            Err(cause) => return Err(AsmFault {
+                line: number,
+                cause,
+            }),
+        }
+        at = next;
+        number += 1;
+    }
+    Ok(routine)
+}
+
+/// Adds the line of a code's operation.
+fn push_line(text: &mut ArrayString<2048>, code: u8)
+    requires code { code < 225 }
+    requires room { array_string_len text.old + 9 ≤ 2048 }
+    ensures line { text.new.bytes ≡ text.old.bytes ++ (text_of_code code ++ 10 ∷ []) }
+    ensures len { array_string_len text.new ≤ array_string_len text.old + 9 }
+{
+    text.push_str(text_of(code).as_str());
+    text.push('\n');
+}
+
+/// The assembly text of a routine: the listing text of each operation on a line of its own.
+pub fn list(routine: &Routine) -> ArrayString<2048>
+    ensures text { result.bytes ≡ listing routine.now }
+    ensures reads_back { assembled result.bytes ≡ Ok routine.now }
+{
+    let mut text = ArrayString::new();
+    for code in routine.codes() {
+        push_line(&mut text, *code);
+    }
+    text
+}

@@ -1,0 +1,158 @@
+// Texts of codes.
+ghost use Rattle.std.specs.Prelude.{◌≡◌, ◌+◌, ◌*◌, ◌<◌, ◌≤◌, ◌^◌, ◌∷◌, [], ◌++◌, length, Bool, true, false, Ok, Err, IfSome, IfOk, IfErr};
+ghost use Rattle.std.specs.Fmt.{digit_glyph};
+ghost use Rattle.arrayvec.specs.ArrayString.{array_string_len};
+ghost use Rattle.jd_logic.specs.Words.{words_of};
+ghost use Rattle.jd_model.specs.Texts.{digit_value};
+ghost use Rattle.jd_model.specs.Assembly.{code_of_digits, code_of_word, with_code, with_codes, routine_of_codes, code_text, codes_text};
+ghost use Rattle.hp_asm.specs.Separated.{after};
+
+use crate::faults::CodeFault;
+use crate::routine::Routine;
+use arrayvec::ArrayString;
+use jd_text::{next_line, next_word};
+
+/// The value of a hexadecimal digit, or 16.
+fn digit_value(b: u8) -> u8
+    ensures value { result ≡ digit_value b }
+    ensures bound { result ≤ 16 }
+{
+    if b'0' <= b && b <= b'9' {
+        b - b'0'
+    } else if b'A' <= b && b <= b'F' {
+        b - b'A' + 10
+    } else if b'a' <= b && b <= b'f' {
+        b - b'a' + 10
+    } else {
+        16
+    }
+}
+
+/// The code of two digits.
+fn code_of_digits(high: u8, low: u8) -> Option<u8>
+    requires high { high ≤ 16 }
+    requires low { low ≤ 16 }
+    ensures value { result ≡ code_of_digits high low }
+    ensures range { IfSome result (λ code. code < 225) }
+{
+    if high < 16 && low < 16 && u16::from(high) * 16 + u16::from(low) < 225 {
+        Some(16 * high + low)
+    } else {
+        None
+    }
+}
+
+/// The code that a word is.
+fn code_of(word: &[u8]) -> Option<u8>
+    ensures value { result ≡ code_of_word word.now }
+    ensures range { IfSome result (λ code. code < 225) }
+{
+    match word {
+        [high, low] => code_of_digits(digit_value(*high), digit_value(*low)),
+        _ => None,
+    }
+}
+
+/// Adds the code that a word is. False where it is none or one too many.
+fn take_code(routine: &mut Routine, word: &[u8]) -> bool
+    ensures taken { result ≡ true → with_code routine.old word.now ≡ Ok routine.new }
+    ensures refused { result ≡ false → with_code routine.old word.now ≡ Err tt }
+{
+    match code_of(word) {
+        None => false,
+        Some(code) => {
+            if routine.is_full() {
+                return false;
+            }
+            routine.push(code);
+            true
+        }
+    }
+}
+
+/// Adds the codes of a line. False where one of its words is bad.
+fn take_codes(routine: &mut Routine, line: &[u8]) -> bool
+    ensures taken { result ≡ true → with_codes routine.old (words_of line.now) ≡ Ok routine.new }
+    ensures refused { result ≡ false → with_codes routine.old (words_of line.now) ≡ Err tt }
+{
+    let mut at = 0;
+    'words: while let Some((word, end)) = next_word(line, at) {
+        if !take_code(routine, word) {
+            return false;
+        }
+        at = end;
+    }
+    true
+}
+
+/// The routine of a text of codes, each two hexadecimal digits in either case. Words stand apart by
+/// blanks, tabs, CR and line ends.
+pub fn read_codes(bytes: &[u8]) -> Result<Routine, CodeFault>
+    requires { length bytes.now + 1 < 2 ^ 32 }
+    ensures routine { IfOk result (λ routine. routine_of_codes bytes.now ≡ Ok routine) }
+    ensures fault { IfErr result (λ fault. routine_of_codes bytes.now ≡ Err (fault.line, tt)) }
+{
+    let mut routine = Routine::new();
+    let mut at = 0;
+    let mut number = 1;
+    'lines: while let Some((line, next)) = next_line(bytes, at) {
+        if !take_codes(&mut routine, line) {
+            return Err(CodeFault { line: number });
+        }
+        at = next;
+        number += 1;
+    }
+    Ok(routine)
+}
+
+/// Adds a hexadecimal digit.
+fn push_digit(text: &mut ArrayString<1024>, digit: u8)
+    requires digit { digit < 16 }
+    requires room { array_string_len text.old < 1024 }
+    ensures text { text.new.bytes ≡ text.old.bytes ++ digit_glyph true digit ∷ [] }
+    ensures len { array_string_len text.new ≡ array_string_len text.old + 1 }
+{
+    let glyph = if digit < 10 {
+        b'0' + digit
+    } else {
+        b'A' + (digit - 10)
+    };
+    text.push(glyph as char);
+}
+
+/// Adds the two digits of a code.
+fn push_code(text: &mut ArrayString<1024>, code: u8)
+    requires { array_string_len text.old + 2 ≤ 1024 }
+    ensures text { text.new.bytes ≡ text.old.bytes ++ code_text code }
+    ensures len { array_string_len text.new ≡ array_string_len text.old + 2 }
+{
+    push_digit(text, code / 16);
+    push_digit(text, code % 16);
+}
+
+/// Adds a code after so many.
+fn push_after(text: &mut ArrayString<1024>, count: usize, code: u8)
+    requires { array_string_len text.old + 3 ≤ 1024 }
+    ensures text { text.new.bytes ≡ text.old.bytes ++ after count (code_text code) }
+    ensures len { array_string_len text.new ≤ array_string_len text.old + 3 }
+{
+    if count > 0 {
+        text.push(' ');
+    }
+    push_code(text, code);
+}
+
+/// The codes of a routine on one line, each two hexadecimal digits in upper case, with a blank
+/// between two.
+pub fn codes(routine: &Routine) -> ArrayString<1024>
+    ensures text { result.bytes ≡ codes_text routine.now }
+    ensures reads_back { routine_of_codes result.bytes ≡ Ok routine.now }
+{
+    let mut text = ArrayString::new();
+    let codes = routine.codes();
+    for i in 0..codes.len() {
+        push_after(&mut text, i, codes[i]);
+    }
+    text.push('\n');
+    text
+}

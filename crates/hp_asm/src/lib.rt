@@ -1,0 +1,17 @@
+//! Routines of the machine as text: assembly, with one operation a line, and codes, two hexadecimal
+//! digits each. Nothing here takes memory.
+#![tactic(auto)]
+
+mod assembly;
+mod code_texts;
+mod faults;
+mod operations;
+mod routine;
+#[cfg(test)]
+mod tests;
+
+pub use assembly::{assemble, list, take_line};
+pub use code_texts::{codes, read_codes};
+pub use faults::{AsmFault, CodeFault};
+pub use jd_model::AsmCause;
+pub use routine::Routine;

@@ -1,0 +1,4 @@
+pub mod Texts
+pub mod Assembly
+pub mod Laws
+pub mod WorkedTexts
