@@ -1,5 +1,5 @@
 -- A text of which only a front was written.
-use Rattle.std.proofs.Common.{◌≡◌, ℕ, List, ◌++◌, take, drop, Option, sym, subst, take-append-drop}
+use Rattle.std.proofs.Common.{ℕ, List, take, drop, Option, sym, subst, take-append-drop}
 use Rattle.std.specs.Io.KnownBytes.{Appends}
 use Rattle.hp16c_commands.specs.declared.outcomes.Outcome.{Outcome}
 use Rattle.hp16c_commands.specs.Proofs.{IsAnswer, WasCutShort}

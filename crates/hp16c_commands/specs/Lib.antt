@@ -3,3 +3,4 @@ pub mod Commands
 pub mod Refusals
 pub mod Keys
 pub mod Proofs
+pub mod Translations

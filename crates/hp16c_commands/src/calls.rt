@@ -8,12 +8,14 @@ ghost use Rattle.hp16c_commands.specs.Commands.{AreWordsOf, IsNoCommand};
 ghost use Rattle.jd_logic.specs.LratCommand.{lrat as lrat_of, limit};
 ghost use Rattle.hp16c_commands.specs.Statuses.{number_of};
 ghost use Rattle.hp16c_commands.specs.Proofs.{WasChecked, WasCutShort, IfChecked};
+ghost use Rattle.hp16c_commands.specs.Translations.{translated, WasTranslated, WasBrokenOff, limit as routine_bytes};
 ghost use Rattle.hp16c_commands.specs.Keys.{WasAnswered, WasCut, IfAnswer, keys_status, keys_text};
 
 use crate::commands::Command;
 use crate::key_files::keys;
 use crate::outcomes::{Kept, Outcome, Status};
 use crate::proof_files::lrat;
+use crate::translations::{Form, translate};
 use hp_io::{Sink, Source};
 use std::alloc::Global;
 
@@ -69,6 +71,21 @@ pub fn hp16c<S: Source, K: Sink>(
         → IfSome (S.left source.old) (λ bytes. IfChecked result.status (Appends (K.written sink.old) (K.written sink.new) (lrat_of bytes).text)) }
     ensures lrat_reads { AreWordsOf Command.Lrat words.now → CallsAtMost (limit + 1) (S.calls source.old) (S.calls source.new) }
 
+    // What `asm` and `list` answer and write: the routine of all bytes of the source in the other form, its
+    // first bad line, or that the bytes are too many.
+    ensures translated { (form : Form) → AreWordsOf (Command.Translate form) words.now → IfChecked result.status
+        (WasTranslated form result.status (S.left source.old) (S.left source.new) (K.written sink.old) (K.written sink.new)) }
+    ensures translate_read_fault { (form : Form) → AreWordsOf (Command.Translate form) words.now → result.status ≡ Status.ReadFault → sink.new ≡ sink.old }
+    ensures translate_no_memory { (form : Form) → AreWordsOf (Command.Translate form) words.now → result.status ≡ Status.NoMemory → sink.new ≡ sink.old }
+    ensures translate_write_fault { (form : Form) → AreWordsOf (Command.Translate form) words.now → result.status ≡ Status.WriteFault
+        → WasBrokenOff form (S.left source.old) (S.left source.new) (K.written sink.old) (K.written sink.new) }
+    ensures translate_status { (form : Form) → AreWordsOf (Command.Translate form) words.now
+        → IfSome (S.left source.old) (λ bytes. IfChecked result.status (result.status ≡ (translated form bytes).status)) }
+    ensures translate_text { (form : Form) → AreWordsOf (Command.Translate form) words.now
+        → IfSome (S.left source.old) (λ bytes. IfChecked result.status (Appends (K.written sink.old) (K.written sink.new) (translated form bytes).text)) }
+    ensures translate_reads { (form : Form) → AreWordsOf (Command.Translate form) words.now → CallsAtMost (routine_bytes + 1) (S.calls source.old) (S.calls source.new) }
+    ensures translate_certificate { (form : Form) → AreWordsOf (Command.Translate form) words.now → result.status ≢ Status.CertRefused }
+
     // Nothing is kept but the first line of a proof that isn't right.
     ensures keeps { result.status ≢ Status.CertRefused → result.kept ≡ Kept.Nothing }
 
@@ -87,5 +104,6 @@ pub fn hp16c<S: Source, K: Sink>(
             kept: Kept::Nothing,
         },
         Command::Lrat => lrat(alloc, source, sink),
+        Command::Translate(form) => Outcome::of(translate(alloc, form, source, sink)),
     }
 }

@@ -3,6 +3,8 @@ ghost use Rattle.std.specs.Prelude.{◌≡◌, map};
 ghost use Rattle.std.specs.String.{string_bytes};
 ghost use Rattle.hp16c_commands.specs.Commands.{command_of};
 
+use crate::translations::Form;
+
 /// The commands.
 #[derive(Clone, Copy, Debug, PartialEq, Eq)]
 pub enum Command {
@@ -10,6 +12,8 @@ pub enum Command {
     Keys,
     /// Checks an LRAT proof after its clauses, and writes what the check says.
     Lrat,
+    /// Reads a routine in one form, and writes it in the other: `asm` reads assembly, `list` codes.
+    Translate(Form),
 }
 
 impl Command {
@@ -20,6 +24,8 @@ impl Command {
         match words {
             [word] if word.as_str() == "keys" => Some(Command::Keys),
             [word] if word.as_str() == "lrat" => Some(Command::Lrat),
+            [word] if word.as_str() == "asm" => Some(Command::Translate(Form::Assembly)),
+            [word] if word.as_str() == "list" => Some(Command::Translate(Form::Codes)),
             _ => None,
         }
     }

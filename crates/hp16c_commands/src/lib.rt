@@ -9,9 +9,11 @@ mod proof_files;
 mod refusals;
 #[cfg(test)]
 mod tests;
+mod translations;
 
 pub use calls::hp16c;
 pub use commands::Command;
 pub use key_files::keys;
 pub use outcomes::{Kept, Outcome, Status};
 pub use proof_files::lrat;
+pub use translations::{Form, translate};

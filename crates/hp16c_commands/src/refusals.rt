@@ -9,18 +9,25 @@ use arrayvec::ArrayString;
 use hp_io::{Failed, Sink, write_whole};
 use itoa::Buffer;
 
-/// Writes which line of the input is bad, counted from 1.
-pub fn write_bad_line<K: Sink>(sink: &mut K, line: u64) -> Result<(), Failed>
-    ensures whole { OnOk result (Appends (K.written sink.old) (K.written sink.new) (bad_line line)) }
-    ensures part { (n : ℕ) × Appends (K.written sink.old) (K.written sink.new) (take n (bad_line line)) }
-    ensures cause { HasCause (K.faults sink.old) (K.faults sink.new) result }
+/// The line that tells which line of the input is bad, counted from 1.
+pub fn bad_line(line: u64) -> ArrayString<32>
+    ensures { result.bytes ≡ bad_line line }
 {
     let mut buffer = Buffer::new();
     let mut text: ArrayString<32> = ArrayString::new();
     text.push_str("bad line ");
     text.push_str(buffer.format(line));
     text.push('\n');
-    write_whole(sink, text.as_str().as_bytes())
+    text
+}
+
+/// Writes which line of the input is bad, counted from 1.
+pub fn write_bad_line<K: Sink>(sink: &mut K, line: u64) -> Result<(), Failed>
+    ensures whole { OnOk result (Appends (K.written sink.old) (K.written sink.new) (bad_line line)) }
+    ensures part { (n : ℕ) × Appends (K.written sink.old) (K.written sink.new) (take n (bad_line line)) }
+    ensures cause { HasCause (K.faults sink.old) (K.faults sink.new) result }
+{
+    write_whole(sink, bad_line(line).as_str().as_bytes())
 }
 
 /// Writes that the input is too long.

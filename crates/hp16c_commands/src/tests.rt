@@ -202,3 +202,45 @@ fn proofs_are_judged(rt: HostRuntime) -> Result<(), Fail> {
     assert_eq!(rt; unwritten.status, Status::WriteFault);
     Ok(())
 }
+
+#[test]
+fn routines_are_translated(rt: HostRuntime) -> Result<(), Fail> {
+    // The word, the input, the read and the write that fail; the status's number, and the text.
+    let rows = [
+        ("asm", "LBL 0\nGTO 0\n", (0, 0), 0, "5C 6C\n"),
+        ("list", "5C 6C\n", (0, 0), 0, "LBL 0\nGTO 0\n"),
+        ("asm", "ENTER\n1/X\n", (0, 0), 4, "bad line 2\n"),
+        ("list", "E1\n", (0, 0), 4, "bad line 1\n"),
+        ("asm", "", (0, 0), 0, "\n"),
+        ("list", "\n", (0, 0), 0, ""),
+        ("asm", "1/X", (2, 0), 6, ""),
+        ("list", "10", (0, 1), 7, ""),
+    ];
+    for (word, input, fails, number, text) in rows {
+        let got = run(rt.alloc(), &[word], input.as_bytes(), fails)?;
+        assert_eq!(rt; got.status.number(), number, "{input}");
+        assert_eq!(rt; got.text.as_slice(), text.as_bytes(), "{input}");
+    }
+    Ok(())
+}
+
+#[test]
+fn long_routines_are_refused(rt: HostRuntime) -> Result<(), Fail> {
+    let alloc = rt.alloc();
+    for (count, number, bytes) in [(203, 0, 609), (204, 4, 13)] {
+        let mut text = String::from_str(alloc, "")?;
+        for _ in 0..count {
+            text.push_str("+\n")?;
+        }
+        let got = run(alloc, &["asm"], text.as_bytes(), (0, 0))?;
+        assert_eq!(rt; got.status.number(), number);
+        assert_eq!(rt; got.text.len(), bytes);
+    }
+    for (count, number, text) in [(65_536, 0, ""), (65_537, 5, "limit\n")] {
+        let blanks = vec![in alloc; b' '; count]?;
+        let got = run(alloc, &["list"], blanks.as_slice(), (0, 0))?;
+        assert_eq!(rt; got.status.number(), number);
+        assert_eq!(rt; got.text.as_slice(), text.as_bytes());
+    }
+    Ok(())
+}
