@@ -1,5 +1,5 @@
 -- Assembly texts and texts of codes. A routine is a list of codes.
-use Rattle.std.specs.Prelude.{ℕ, ◌+◌, ◌*◌, ◌/◌, ◌%◌, Bool, true, false, nat_lt, ◌&&◌, if◌then◌else◌, List, [], ◌∷◌, ◌++◌, length, map, flat_map, codes, is_some, Option, Some, None, Result, Ok, Err, ⊤}
+use Rattle.std.specs.Prelude.{ℕ, ◌+◌, ◌*◌, ◌/◌, ◌%◌, ◌<◌, ◌≤◌, All, Bool, true, false, nat_lt, ◌&&◌, if◌then◌else◌, List, [], ◌∷◌, ◌++◌, length, map, flat_map, codes, is_some, Option, Some, None, Result, Ok, Err, ⊤}
 use Rattle.std.specs.Fmt.{digit_glyph}
 use Rattle.std.specs.List.{list_any, join_with_byte}
 use Rattle.hp_model.specs.Lists.{first_from}
@@ -41,6 +41,11 @@ is_float_key word = list_any (λ key. is_text key word) (codes "FLOAT" ∷ codes
 
 abbrev pub routine_limit : ℕ
 routine_limit = 203
+
+-- a list of codes that a routine may be
+pub record IsRoutine (routine : List ℕ) : Type 0 where
+  pub codes : All (λ code. code < 225) routine
+  pub few : length routine ≤ routine_limit
 
 -- the routine with the line's operation, or why the line is bad
 abbrev pub with_operation : List ℕ → List (List ℕ) → Result (List ℕ) AsmCause

@@ -1,4 +1,14 @@
 pub mod Texts
+pub mod Numbers
 pub mod Assembly
+pub mod Problems
+pub mod ProblemLines
+pub mod ProblemTexts
+pub mod ProblemWriter
+pub mod StartTexts
+pub mod Seen
+pub mod Replays
 pub mod Laws
 pub mod WorkedTexts
+pub mod WorkedProblems
+pub mod WorkedReplays

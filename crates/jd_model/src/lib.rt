@@ -1,8 +1,11 @@
-//! What assembly texts and texts of codes are. The definitions stand in `specs/`; the types that
+//! What assembly texts and texts of codes are, what a problem and its starts are and their texts,
+//! and what is seen of the runs of two routines. The definitions stand in `specs/`; the types that
 //! definitions and code share stand here.
 #![tactic(auto)]
 
 pub mod causes;
 pub mod laws;
+pub mod line_kinds;
 
-pub use causes::AsmCause;
+pub use causes::{AsmCause, ProblemCause};
+pub use line_kinds::LineKind;
