@@ -5,7 +5,7 @@ use Rattle.std.specs.List.{join_with_byte}
 use Rattle.std.proofs.lemmas.Bool.Decides.{nat_tests}
 use Rattle.std.proofs.lemmas.List.{take_more, take_all, map-append, length-take-le}
 use Rattle.jd_model.specs.Assembly.{assembled, listing, routine_of_codes, code_text, codes_text}
-use Rattle.jd_model.specs.Laws.{IsRoutine}
+use Rattle.jd_model.specs.Assembly.{IsRoutine}
 use Rattle.jd_model.proofs.ReadBack.{assembled-listing, read-codes}
 use Rattle.hp_asm.specs.Separated.{after}
 

@@ -2,7 +2,7 @@
 ghost use Rattle.std.specs.Prelude.{◌≡◌, ◌+◌, ◌<◌, ◌≤◌, ◌^◌, ◌∷◌, [], ◌++◌, length, Ok, Err, OnOk, OnErr, IfOk, IfErr};
 ghost use Rattle.arrayvec.specs.ArrayString.{array_string_len};
 ghost use Rattle.jd_logic.specs.Words.{words_of};
-ghost use Rattle.jd_model.specs.Assembly.{text_of_code, with_operation, with_line, assembled, listing};
+ghost use Rattle.jd_model.specs.Assembly.{IsRoutine, text_of_code, with_operation, with_line, assembled, listing};
 
 use crate::faults::AsmFault;
 use crate::operations::{begins_text, code_of, is_float_key, text_of};
@@ -89,6 +89,8 @@ fn push_line(text: &mut ArrayString<2048>, code: u8)
 pub fn list(routine: &Routine) -> ArrayString<2048>
     ensures text { result.bytes ≡ listing routine.now }
     ensures reads_back { assembled result.bytes ≡ Ok routine.now }
+    ensures routine { IsRoutine routine.now }
+    ensures len { array_string_len result ≤ 1827 }
 {
     let mut text = ArrayString::new();
     for code in routine.codes() {

@@ -1,32 +1,14 @@
 // Texts of codes.
 ghost use Rattle.std.specs.Prelude.{◌≡◌, ◌+◌, ◌*◌, ◌<◌, ◌≤◌, ◌^◌, ◌∷◌, [], ◌++◌, length, Bool, true, false, Ok, Err, IfSome, IfOk, IfErr};
-ghost use Rattle.std.specs.Fmt.{digit_glyph};
 ghost use Rattle.arrayvec.specs.ArrayString.{array_string_len};
 ghost use Rattle.jd_logic.specs.Words.{words_of};
-ghost use Rattle.jd_model.specs.Texts.{digit_value};
 ghost use Rattle.jd_model.specs.Assembly.{code_of_digits, code_of_word, with_code, with_codes, routine_of_codes, code_text, codes_text};
 ghost use Rattle.hp_asm.specs.Separated.{after};
 
 use crate::faults::CodeFault;
 use crate::routine::Routine;
 use arrayvec::ArrayString;
-use jd_text::{next_line, next_word};
-
-/// The value of a hexadecimal digit, or 16.
-fn digit_value(b: u8) -> u8
-    ensures value { result ≡ digit_value b }
-    ensures bound { result ≤ 16 }
-{
-    if b'0' <= b && b <= b'9' {
-        b - b'0'
-    } else if b'A' <= b && b <= b'F' {
-        b - b'A' + 10
-    } else if b'a' <= b && b <= b'f' {
-        b - b'a' + 10
-    } else {
-        16
-    }
-}
+use jd_text::{digit_value, next_line, next_word, push_digit};
 
 /// The code of two digits.
 fn code_of_digits(high: u8, low: u8) -> Option<u8>
@@ -103,21 +85,6 @@ pub fn read_codes(bytes: &[u8]) -> Result<Routine, CodeFault>
         number += 1;
     }
     Ok(routine)
-}
-
-/// Adds a hexadecimal digit.
-fn push_digit(text: &mut ArrayString<1024>, digit: u8)
-    requires digit { digit < 16 }
-    requires room { array_string_len text.old < 1024 }
-    ensures text { text.new.bytes ≡ text.old.bytes ++ digit_glyph true digit ∷ [] }
-    ensures len { array_string_len text.new ≡ array_string_len text.old + 1 }
-{
-    let glyph = if digit < 10 {
-        b'0' + digit
-    } else {
-        b'A' + (digit - 10)
-    };
-    text.push(glyph as char);
 }
 
 /// Adds the two digits of a code.

@@ -1,6 +1,6 @@
 // Routines.
 ghost use Rattle.std.specs.Prelude.{◌≡◌, ◌<◌, ◌≤◌, [], ◌∷◌, ◌++◌, ◌==◌, length};
-ghost use Rattle.jd_model.specs.Laws.{IsRoutine};
+ghost use Rattle.jd_model.specs.Assembly.{IsRoutine};
 
 use arrayvec::ArrayVec;
 use std::marker::Model;
@@ -13,7 +13,7 @@ pub struct Routine {
 
 impl Model for Routine {
     ghost use Rattle.std.specs.Prelude.{List, ℕ};
-    ghost use Rattle.jd_model.specs.Laws.{IsRoutine};
+    ghost use Rattle.jd_model.specs.Assembly.{IsRoutine};
 
     ghost Value = { List ℕ };
 
@@ -55,5 +55,14 @@ impl Routine {
         ensures routine { IsRoutine result.now }
     {
         self.codes.as_slice()
+    }
+
+    /// Another routine with the same operations.
+    pub fn copy(&self) -> Routine
+        ensures { result ≡ self.now }
+    {
+        let mut codes = ArrayVec::new();
+        codes.try_extend_from_slice(self.codes.as_slice()).unwrap();
+        Routine { codes }
     }
 }

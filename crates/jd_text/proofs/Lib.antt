@@ -1,2 +1,5 @@
 pub mod Scans
 pub mod LineEnds
+pub mod Digits
+pub mod LineFronts
+pub mod Hexadecimals
