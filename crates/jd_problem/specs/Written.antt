@@ -1,0 +1,6 @@
+-- Words as they are written.
+use Rattle.std.specs.Prelude.{ℕ, List, ◌∷◌, flat_map}
+
+-- words with a blank before each
+abbrev pub spaced : List (List ℕ) → List ℕ
+spaced words = flat_map (λ word. 32 ∷ word) words

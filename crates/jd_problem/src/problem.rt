@@ -1,0 +1,115 @@
+//! Problems.
+ghost use Rattle.std.specs.Prelude.{◌≡◌, ◌≤◌, true, length};
+ghost use Rattle.hp_model.specs.State.{blocks_of};
+ghost use Rattle.jd_model.specs.Assembly.{IsRoutine};
+ghost use Rattle.jd_model.specs.Problems.{are_fixed_from};
+ghost use Rattle.jd_problem.specs.Parts.{values_of};
+
+use crate::bits::Bits;
+use crate::fields::{are_in_fields, free_widths, numbers_in};
+use crate::parts::{Fixed, Parts};
+use crate::problem_fields::{allows_nibbles, first_fields, free_nibble_bits, nibbles_in};
+use crate::start::Start;
+use crate::start_numbers::{first_numbers, start_with};
+use hp_asm::Routine;
+use hp_words::{Base, Mode, WordSize};
+
+/// Whether two routines agree from each start: with how many bits, in which mode and base they run,
+/// for at most how many steps each, which parts of the outcome are observed, and which parts of a
+/// start are fixed. `paths` and `budget` bound the work of a judge.
+#[derive(Drop)]
+pub struct Problem {
+    pub size: WordSize,
+    pub mode: Mode,
+    pub base: Base,
+    /// The lines that each run may do, 1 to 1,000.
+    pub steps: u16,
+    /// The paths that may be walked, 1 to 65,536.
+    pub paths: u32,
+    /// The lines of proof that one question may take, 1 to 1,048,576.
+    pub budget: u32,
+    pub observed: Parts,
+    pub fixed: Fixed,
+    pub first: Routine,
+    pub second: Routine,
+    pub ghost steps_least: { 1 ≤ steps },
+    pub ghost steps_most: { steps ≤ 1000 },
+    pub ghost paths_least: { 1 ≤ paths },
+    pub ghost paths_most: { paths ≤ 65_536 },
+    pub ghost budget_least: { 1 ≤ budget },
+    pub ghost budget_most: { budget ≤ 1_048_576 },
+    pub ghost fixed_within: { are_fixed_from size.bits 0 (values_of fixed) ≡ true },
+}
+
+/// The blocks of seven bytes that a routine takes.
+fn blocks_of(routine: &Routine) -> u8
+    ensures value { result ≡ blocks_of (length routine.now) }
+    ensures bound { result ≤ 29 }
+    ensures routine { IsRoutine routine.now }
+{
+    ((routine.codes().len() + 6) / 7) as u8
+}
+
+impl Problem {
+    ghost use Rattle.std.specs.Prelude.{◌≡◌, ◌≤◌, length, true};
+    ghost use Rattle.jd_model.specs.Problems.{IsProblem, blocks, free_bits, allows, start_of};
+    ghost use Rattle.jd_problem.specs.Problems.{problem_of};
+    ghost use Rattle.jd_problem.specs.Starts.{start_data};
+
+    /// The blocks of seven bytes that belong to the program in both runs, which are those of the longer routine.
+    pub fn blocks(&self) -> u8
+        ensures value { result ≡ blocks (problem_of self.now) }
+        ensures bound { result ≤ 29 }
+        ensures ranges { IsProblem (problem_of self.now) }
+    {
+        blocks_of(&self.first).max(blocks_of(&self.second))
+    }
+
+    /// Another problem that is the same.
+    pub fn copy(&self) -> Problem
+        ensures { problem_of result ≡ problem_of self.now }
+    {
+        Problem {
+            size: self.size,
+            mode: self.mode,
+            base: self.base,
+            steps: self.steps,
+            paths: self.paths,
+            budget: self.budget,
+            observed: self.observed,
+            fixed: self.fixed,
+            first: self.first.copy(),
+            second: self.second.copy(),
+        }
+    }
+
+    /// How many bits of a start are free.
+    pub fn free_bits(&self) -> u32
+        ensures value { result ≡ free_bits (problem_of self.now) }
+        ensures bound { result ≤ 2014 }
+    {
+        free_widths(&first_fields(self)) + free_nibble_bits(self)
+    }
+
+    /// Whether a start has words of the problem's size, as many nibbles as its runs have, and the fixed
+    /// parts as they are fixed.
+    pub fn allows(&self, start: &Start) -> bool
+        ensures { result ≡ allows (problem_of self.now) (start_data start.now) }
+    {
+        are_in_fields(&first_fields(self), &first_numbers(start))
+            && allows_nibbles(self, start.nibbles.as_slice())
+    }
+
+    /// The start that has these free bits.
+    pub fn start_of(&self, bits: &Bits) -> Start
+        requires { length bits.now ≡ free_bits (problem_of self.now) }
+        ensures start { start_data result ≡ start_of (problem_of self.now) bits.now }
+        ensures allowed { allows (problem_of self.now) (start_data result) ≡ true }
+    {
+        let bits = bits.as_slice();
+        let fields = first_fields(self);
+        let first = numbers_in(&fields, bits);
+        let nibbles = nibbles_in(self, bits, free_widths(&fields) as usize);
+        start_with(first.as_slice(), nibbles)
+    }
+}

@@ -1,0 +1,52 @@
+// A problem as far as it is read.
+ghost use Rattle.std.specs.Prelude.{◌≡◌, ◌<◌, ◌≤◌, false, None, replicate};
+ghost use Rattle.jd_problem.specs.Parts.{marks_of, values_of};
+
+use crate::parts::{Fixed, Parts};
+use crate::problem::Problem;
+use hp_asm::Routine;
+use hp_words::{Base, Mode, WordSize};
+
+/// How many headers and section words were given, which are always the first ones in their order,
+/// and what the lines said. What no line has said yet is the least of its range.
+#[derive(Drop)]
+pub struct Reading {
+    pub given: u8,
+    pub problem: Problem,
+    pub ghost few: { given ≤ 11 },
+    pub ghost unobserved: { given < 8 → marks_of problem.observed ≡ replicate 13 false },
+    pub ghost unfixed: { given < 8 → values_of problem.fixed ≡ replicate 13 None },
+}
+
+impl Reading {
+    ghost use Rattle.jd_model.specs.ProblemTexts.{nothing_read, is_whole};
+    ghost use Rattle.jd_problem.specs.Readings.{reading_of};
+
+    /// The reading before any line.
+    pub fn new() -> Reading
+        ensures { reading_of result ≡ nothing_read }
+    {
+        Reading {
+            given: 0,
+            problem: Problem {
+                size: WordSize { bits: 1 },
+                mode: Mode::Unsigned,
+                base: Base::Hex,
+                steps: 1,
+                paths: 1,
+                budget: 1,
+                observed: Parts::none(),
+                fixed: Fixed::none(),
+                first: Routine::new(),
+                second: Routine::new(),
+            },
+        }
+    }
+
+    /// Whether `end` was given.
+    pub fn is_whole(&self) -> bool
+        ensures { result ≡ is_whole (reading_of self.now) }
+    {
+        self.given == 11
+    }
+}
