@@ -1,0 +1,4 @@
+pub mod Allowed
+pub mod Observed
+pub mod PartPhrases
+pub mod TwoParts

@@ -1,0 +1,75 @@
+// Whether two runs are seen the same.
+ghost use Rattle.std.specs.Prelude.{◌≡◌, ◌<◌, bytes_eq};
+ghost use Rattle.jd_model.specs.Seen.{same_end, agree_on};
+ghost use Rattle.jd_problem.specs.Parts.{marks_of};
+ghost use Rattle.jd_problem.specs.Starts.{start_data};
+ghost use Rattle.jd_replay.specs.Agreement.{same_at, same_numbers, same_parts};
+ghost use Rattle.jd_replay.specs.Seen.{seen_of};
+
+use crate::seen::Seen;
+use hp_model::End;
+use jd_problem::part_table::part_at;
+use jd_problem::start_numbers::first_numbers;
+use jd_problem::{Nibbles, Part, Parts, Problem, Start};
+
+/// Whether two runs end in the same way, errors with the same number.
+fn same_end(first: End, second: End) -> bool
+    ensures { result ≡ same_end first second }
+{
+    match first {
+        End::Return => matches!(second, End::Return),
+        End::Halt => matches!(second, End::Halt),
+        End::Error(number) => match second {
+            End::Error(other) => number == other,
+            _ => false,
+        },
+    }
+}
+
+/// Whether the numbers at a place are the same, if that part is observed.
+fn same_at(observed: &Parts, place: usize, first: &[u64; 12], second: &[u64; 12]) -> bool
+    requires { place < 12 }
+    ensures { result ≡ same_at (marks_of observed.now) first.now second.now place }
+{
+    !observed.contains(part_at(place)) || first[place] == second[place]
+}
+
+/// Whether the observed numbers are the same, from X to flag 5.
+fn same_numbers(observed: &Parts, first: &[u64; 12], second: &[u64; 12]) -> bool
+    ensures { result ≡ same_numbers (marks_of observed.now) first.now second.now }
+{
+    for place in 0..12 {
+        if !same_at(observed, place, first, second) {
+            return false;
+        }
+    }
+    true
+}
+
+/// Whether two lists of nibbles are the same.
+fn same_nibbles(first: &Nibbles, second: &Nibbles) -> bool
+    ensures { result ≡ bytes_eq first.now second.now }
+{
+    first.as_slice() == second.as_slice()
+}
+
+/// Whether the observed parts of two states are the same.
+fn same_parts(observed: &Parts, first: &Start, second: &Start) -> bool
+    ensures { result ≡ same_parts (marks_of observed.now) (start_data first.now) (start_data second.now) }
+{
+    same_numbers(observed, &first_numbers(first), &first_numbers(second))
+        && (!observed.contains(Part::M) || same_nibbles(&first.nibbles, &second.nibbles))
+}
+
+/// Whether both runs ended in time and alike, with the same observed parts.
+pub fn agree(problem: &Problem, first: &Seen, second: &Seen) -> bool
+    ensures { result ≡ agree_on (marks_of problem.now.observed) (seen_of first.now) (seen_of second.now) }
+{
+    let Seen::Ended(end, state) = first else {
+        return false;
+    };
+    let Seen::Ended(other, there) = second else {
+        return false;
+    };
+    same_end(*end, *other) && same_parts(&problem.observed, state, there)
+}

@@ -1,0 +1,14 @@
+//! The runs of a problem's two routines from a start, what is seen of them, and whether they agree.
+//! Nothing here takes memory.
+#![tactic(auto)]
+
+mod agreement;
+mod replays;
+pub mod seen;
+mod seen_line;
+
+pub use agreement::agree;
+pub use hp_model::End;
+pub use replays::replay;
+pub use seen::Seen;
+pub use seen_line::{seen_text, write_seen};

@@ -1,0 +1,11 @@
+//! What is seen of a run.
+use hp_model::End;
+use jd_problem::Start;
+
+/// What is seen of a run: that it wasn't over after the problem's steps, or how it ended and the
+/// state there.
+#[derive(Drop)]
+pub enum Seen {
+    Late,
+    Ended(End, Start),
+}
