@@ -8,7 +8,7 @@ use Rattle.hp_model.specs.Session.{SessionEnd, Session, session, byte_limit}
 use Rattle.hp_model.specs.Session as ends
 use Rattle.hp_session.specs.Ends.{WasRefused, WasCutOff}
 use Rattle.hp16c_commands.specs.declared.outcomes.Status.{Status}
-use Rattle.hp16c_commands.specs.declared.outcomes.Status.TheVariants.{Done, Usage, BadInput, Limit, ReadFault, WriteFault, NoMemory, CertRefused}
+use Rattle.hp16c_commands.specs.declared.outcomes.Status.TheVariants.{Done, Different, Usage, BadInput, Limit, ReadFault, WriteFault, NoMemory, CertRefused}
 use Rattle.hp16c_commands.specs.Keys.{WasAnswered, WasCut, IfAnswer, keys_text, last_words, status_of_end}
 
 -- where the status is the answer, the last line was written
@@ -79,6 +79,7 @@ told_text (Some bytes) w0 w1 w2 end told text put = Appends-trans w0 w1 w2 _ _ t
 
 if_answer : (status : Status) (P : Type 0) → P → IfAnswer status P
 if_answer Done P p = p
+if_answer Different P p = p
 if_answer Usage P p = p
 if_answer BadInput P p = p
 if_answer Limit P p = p

@@ -1,15 +1,16 @@
--- A text of which only a front was written.
+-- An answer of whose text only a front was written.
 use Rattle.std.proofs.Common.{ℕ, List, take, drop, Option, sym, subst, take-append-drop}
 use Rattle.std.specs.Io.KnownBytes.{Appends}
-use Rattle.hp16c_commands.specs.declared.outcomes.Outcome.{Outcome}
-use Rattle.hp16c_commands.specs.Proofs.{IsAnswer, WasCutShort}
+use Rattle.hp16c_commands.specs.declared.queries.Query.{Query}
+use Rattle.hp16c_commands.specs.Answers.{Answer}
+use Rattle.hp16c_commands.specs.Queries.{IsAnswer, WasCutShort}
 
-pub cut_short : (left0 left written0 written : Option (List ℕ)) (outcome : Outcome) (text : List ℕ) (n : ℕ) → IsAnswer left0 left outcome text
-    → Appends written0 written (take n text) → WasCutShort left0 left written0 written
-cut_short left0 left written0 written outcome text n answer put = record {
-  outcome = outcome;
-  part = take n text;
-  left_out = drop n text;
-  answer = subst (λ t. IsAnswer left0 left outcome t) (sym (take-append-drop n text)) answer;
+pub cut_short : (query : Query) (left0 left written0 written : Option (List ℕ)) (answer : Answer) (n : ℕ) → IsAnswer query left0 left answer
+    → Appends written0 written (take n answer.text) → WasCutShort query left0 left written0 written
+cut_short query left0 left written0 written answer n is put = record {
+  outcome = answer.outcome;
+  part = take n answer.text;
+  left_out = drop n answer.text;
+  answer = subst (λ t. IsAnswer query left0 left (record { outcome = answer.outcome; text = t })) (sym (take-append-drop n answer.text)) is;
   put = put;
 }

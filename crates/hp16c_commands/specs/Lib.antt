@@ -2,5 +2,8 @@ pub mod Statuses
 pub mod Commands
 pub mod Refusals
 pub mod Keys
-pub mod Proofs
-pub mod Translations
+pub mod Answers
+pub mod Lrat
+pub mod Assemble
+pub mod List
+pub mod Queries

@@ -1,10 +1,11 @@
 -- The numbers of the statuses.
 use Rattle.std.specs.Prelude.{ℕ}
 use Rattle.hp16c_commands.specs.declared.outcomes.Status.{Status}
-use Rattle.hp16c_commands.specs.declared.outcomes.Status.TheVariants.{Done, Usage, BadInput, Limit, ReadFault, WriteFault, NoMemory, CertRefused}
+use Rattle.hp16c_commands.specs.declared.outcomes.Status.TheVariants.{Done, Different, Usage, BadInput, Limit, ReadFault, WriteFault, NoMemory, CertRefused}
 
 abbrev pub number_of : Status → ℕ
 number_of Done = 0
+number_of Different = 1
 number_of Usage = 3
 number_of BadInput = 4
 number_of Limit = 5

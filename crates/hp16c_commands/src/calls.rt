@@ -5,17 +5,15 @@ ghost use Rattle.hp_io.specs.Causes.{CallsAtMost, Rose};
 ghost use Rattle.hp_model.specs.Session.{byte_limit};
 ghost use Rattle.hp_session.specs.Ends.{WasStopped};
 ghost use Rattle.hp16c_commands.specs.Commands.{AreWordsOf, IsNoCommand};
-ghost use Rattle.jd_logic.specs.LratCommand.{lrat as lrat_of, limit};
+ghost use Rattle.jd_logic.specs.LratCommand.{lrat as lrat_of};
 ghost use Rattle.hp16c_commands.specs.Statuses.{number_of};
-ghost use Rattle.hp16c_commands.specs.Proofs.{WasChecked, WasCutShort, IfChecked};
-ghost use Rattle.hp16c_commands.specs.Translations.{translated, WasTranslated, WasBrokenOff, limit as routine_bytes};
+ghost use Rattle.hp16c_commands.specs.Queries.{limit_of, answered, WasGiven, WasCutShort, IfGiven};
 ghost use Rattle.hp16c_commands.specs.Keys.{WasAnswered, WasCut, IfAnswer, keys_status, keys_text};
 
 use crate::commands::Command;
 use crate::key_files::keys;
 use crate::outcomes::{Kept, Outcome, Status};
-use crate::proof_files::lrat;
-use crate::translations::{Form, translate};
+use crate::queries::{Query, ask};
 use hp_io::{Sink, Source};
 use std::alloc::Global;
 
@@ -56,35 +54,40 @@ pub fn hp16c<S: Source, K: Sink>(
     ensures keys_memory { AreWordsOf Command.Keys words.now → result.status ≢ Status.NoMemory }
     ensures keys_certificate { AreWordsOf Command.Keys words.now → result.status ≢ Status.CertRefused }
 
-    // What `lrat` answers and writes: the verdict on all bytes of the source, or that they are too many.
-    ensures lrat_checked { AreWordsOf Command.Lrat words.now → IfChecked result.status
-        (WasChecked result (S.left source.old) (S.left source.new) (K.written sink.old) (K.written sink.new)) }
-    ensures lrat_read_fault { AreWordsOf Command.Lrat words.now → result.status ≡ Status.ReadFault → sink.new ≡ sink.old }
-    ensures lrat_no_memory { AreWordsOf Command.Lrat words.now → result.status ≡ Status.NoMemory → sink.new ≡ sink.old }
-    ensures lrat_write_fault { AreWordsOf Command.Lrat words.now → result.status ≡ Status.WriteFault
-        → WasCutShort (S.left source.old) (S.left source.new) (K.written sink.old) (K.written sink.new) }
+    // What a query writes and keeps: the answer for all bytes of the source, or that they are too many.
+    ensures query_given { (query : Query) → AreWordsOf (Command.Ask query) words.now
+        → IfGiven result.status (WasGiven query result
+        (S.left source.old) (S.left source.new) (K.written sink.old) (K.written sink.new)) }
+    ensures query_read_fault { (query : Query) → AreWordsOf (Command.Ask query) words.now
+        → result.status ≡ Status.ReadFault → sink.new ≡ sink.old }
+    ensures query_no_memory { (query : Query) → AreWordsOf (Command.Ask query) words.now
+        → result.status ≡ Status.NoMemory → sink.new ≡ sink.old }
+    ensures query_write_fault { (query : Query) → AreWordsOf (Command.Ask query) words.now
+        → result.status ≡ Status.WriteFault → WasCutShort query
+        (S.left source.old) (S.left source.new) (K.written sink.old) (K.written sink.new) }
 
     // Where the source tells its bytes, no fault came and memory was there, they alone decide.
-    ensures lrat_status { AreWordsOf Command.Lrat words.now
-        → IfSome (S.left source.old) (λ bytes. IfChecked result.status (number_of result.status ≡ (lrat_of bytes).status)) }
-    ensures lrat_text { AreWordsOf Command.Lrat words.now
-        → IfSome (S.left source.old) (λ bytes. IfChecked result.status (Appends (K.written sink.old) (K.written sink.new) (lrat_of bytes).text)) }
-    ensures lrat_reads { AreWordsOf Command.Lrat words.now → CallsAtMost (limit + 1) (S.calls source.old) (S.calls source.new) }
+    ensures query_outcome { (query : Query) → AreWordsOf (Command.Ask query) words.now
+        → IfSome (S.left source.old) (λ bytes.
+        IfGiven result.status (result ≡ (answered query bytes).outcome)) }
+    ensures query_text { (query : Query) → AreWordsOf (Command.Ask query) words.now
+        → IfSome (S.left source.old) (λ bytes. IfGiven result.status
+        (Appends (K.written sink.old) (K.written sink.new) (answered query bytes).text)) }
+    ensures query_reads { (query : Query) → AreWordsOf (Command.Ask query) words.now
+        → CallsAtMost (limit_of query + 1) (S.calls source.old) (S.calls source.new) }
 
-    // What `asm` and `list` answer and write: the routine of all bytes of the source in the other form, its
-    // first bad line, or that the bytes are too many.
-    ensures translated { (form : Form) → AreWordsOf (Command.Translate form) words.now → IfChecked result.status
-        (WasTranslated form result.status (S.left source.old) (S.left source.new) (K.written sink.old) (K.written sink.new)) }
-    ensures translate_read_fault { (form : Form) → AreWordsOf (Command.Translate form) words.now → result.status ≡ Status.ReadFault → sink.new ≡ sink.old }
-    ensures translate_no_memory { (form : Form) → AreWordsOf (Command.Translate form) words.now → result.status ≡ Status.NoMemory → sink.new ≡ sink.old }
-    ensures translate_write_fault { (form : Form) → AreWordsOf (Command.Translate form) words.now → result.status ≡ Status.WriteFault
-        → WasBrokenOff form (S.left source.old) (S.left source.new) (K.written sink.old) (K.written sink.new) }
-    ensures translate_status { (form : Form) → AreWordsOf (Command.Translate form) words.now
-        → IfSome (S.left source.old) (λ bytes. IfChecked result.status (result.status ≡ (translated form bytes).status)) }
-    ensures translate_text { (form : Form) → AreWordsOf (Command.Translate form) words.now
-        → IfSome (S.left source.old) (λ bytes. IfChecked result.status (Appends (K.written sink.old) (K.written sink.new) (translated form bytes).text)) }
-    ensures translate_reads { (form : Form) → AreWordsOf (Command.Translate form) words.now → CallsAtMost (routine_bytes + 1) (S.calls source.old) (S.calls source.new) }
-    ensures translate_certificate { (form : Form) → AreWordsOf (Command.Translate form) words.now → result.status ≢ Status.CertRefused }
+    // The answer to `lrat` is the one that the definitions of proofs give.
+    ensures lrat_status { AreWordsOf (Command.Ask Query.Lrat) words.now
+        → IfSome (S.left source.old) (λ bytes.
+        IfGiven result.status (number_of result.status ≡ (lrat_of bytes).status)) }
+    ensures lrat_text { AreWordsOf (Command.Ask Query.Lrat) words.now
+        → IfSome (S.left source.old) (λ bytes. IfGiven result.status
+        (Appends (K.written sink.old) (K.written sink.new) (lrat_of bytes).text)) }
+
+    // Only `lrat` refuses a proof, and no command finds a difference.
+    ensures certificate { result.status ≡ Status.CertRefused
+        → AreWordsOf (Command.Ask Query.Lrat) words.now }
+    ensures no_difference { result.status ≢ Status.Different }
 
     // Nothing is kept but the first line of a proof that isn't right.
     ensures keeps { result.status ≢ Status.CertRefused → result.kept ≡ Kept.Nothing }
@@ -103,7 +106,6 @@ pub fn hp16c<S: Source, K: Sink>(
             status: keys(source, sink),
             kept: Kept::Nothing,
         },
-        Command::Lrat => lrat(alloc, source, sink),
-        Command::Translate(form) => Outcome::of(translate(alloc, form, source, sink)),
+        Command::Ask(query) => ask(alloc, query, source, sink),
     }
 }

@@ -22,6 +22,7 @@ pub fn keys<S: Source, K: Sink>(source: &mut S, sink: &mut K) -> Status
     ensures no_usage { result ≢ Status.Usage }
     ensures no_memory { result ≢ Status.NoMemory }
     ensures no_certificate { result ≢ Status.CertRefused }
+    ensures no_difference { result ≢ Status.Different }
     ensures read_cause { result ≡ Status.ReadFault → Rose (S.faults source.old) (S.faults source.new) }
     ensures write_cause { result ≡ Status.WriteFault → Rose (K.faults sink.old) (K.faults sink.new) }
     ensures told_status { IfSome (S.left source.old) (λ bytes. IfAnswer result (result ≡ keys_status bytes)) }

@@ -1,19 +1,20 @@
 //! The commands of the program hp16c, and the call that does the one that the words name.
 #![tactic(auto)]
 
+mod answers;
 mod calls;
 mod commands;
 mod key_files;
 mod outcomes;
 mod proof_files;
+mod queries;
 mod refusals;
+mod routines;
 #[cfg(test)]
 mod tests;
-mod translations;
 
 pub use calls::hp16c;
 pub use commands::Command;
 pub use key_files::keys;
 pub use outcomes::{Kept, Outcome, Status};
-pub use proof_files::lrat;
-pub use translations::{Form, translate};
+pub use queries::{Query, ask};

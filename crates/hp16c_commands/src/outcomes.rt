@@ -10,6 +10,8 @@ use jd_logic::BadLine;
 pub enum Status {
     /// The command's good answer is written.
     Done,
+    /// `replay`: the two routines don't agree from this start.
+    Different,
     /// The words are no command.
     Usage,
     /// The input isn't in the command's grammar.
@@ -33,6 +35,7 @@ impl Status {
     {
         match self {
             Status::Done => 0,
+            Status::Different => 1,
             Status::Usage => 3,
             Status::BadInput => 4,
             Status::Limit => 5,
