@@ -1,2 +1,4 @@
+pub mod AnswerOutcomes
 pub mod Answered
 pub mod CutShort
+pub mod Replayed

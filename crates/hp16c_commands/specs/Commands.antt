@@ -11,7 +11,8 @@ command_named word =
     if bytes_eq word (codes "keys") then Some Keys else
     if bytes_eq word (codes "lrat") then Some (Ask queries.Lrat) else
     if bytes_eq word (codes "asm") then Some (Ask queries.Assemble) else
-    if bytes_eq word (codes "list") then Some (Ask queries.List) else None
+    if bytes_eq word (codes "list") then Some (Ask queries.List) else
+    if bytes_eq word (codes "replay") then Some (Ask queries.Replay) else None
 
 -- the command that the words are
 abbrev pub command_of : List (List ℕ) → Option Command

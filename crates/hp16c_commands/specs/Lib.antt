@@ -6,4 +6,5 @@ pub mod Answers
 pub mod Lrat
 pub mod Assemble
 pub mod List
+pub mod Replay
 pub mod Queries

@@ -13,18 +13,21 @@ use Rattle.hp16c_commands.specs.Answers.{Answer, too_long}
 use Rattle.hp16c_commands.specs.Lrat.{lrat_answer}
 use Rattle.hp16c_commands.specs.Assemble.{asm_answer}
 use Rattle.hp16c_commands.specs.List.{list_answer}
+use Rattle.hp16c_commands.specs.Replay.{replay_answer}
 
 -- the greatest input, in bytes
 abbrev pub limit_of : Query → ℕ
 limit_of queries.Lrat = lrat_command.limit
 limit_of queries.Assemble = 65_536
 limit_of queries.List = 65_536
+limit_of queries.Replay = 131_072
 
 -- the answer for bytes within the limit
 abbrev pub answer_to : Query → List ℕ → Answer
 answer_to queries.Lrat bytes = lrat_answer bytes
 answer_to queries.Assemble bytes = asm_answer bytes
 answer_to queries.List bytes = list_answer bytes
+answer_to queries.Replay bytes = replay_answer bytes
 
 -- the answer for all bytes
 abbrev pub answered : Query → List ℕ → Answer
@@ -73,6 +76,6 @@ pub record IsOutcomeOf (query : Query) (outcome : Outcome) : Type 0 where
   pub no_read_fault : outcome.status ≢ ReadFault
   pub no_write_fault : outcome.status ≢ WriteFault
   pub no_lack : outcome.status ≢ NoMemory
-  pub no_difference : outcome.status ≢ Different
+  pub difference : outcome.status ≡ Different → query ≡ queries.Replay
   pub certificate : outcome.status ≡ CertRefused → query ≡ queries.Lrat
   pub kept : outcome.status ≢ CertRefused → outcome.kept ≡ Nothing

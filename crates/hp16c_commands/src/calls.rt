@@ -84,10 +84,11 @@ pub fn hp16c<S: Source, K: Sink>(
         → IfSome (S.left source.old) (λ bytes. IfGiven result.status
         (Appends (K.written sink.old) (K.written sink.new) (lrat_of bytes).text)) }
 
-    // Only `lrat` refuses a proof, and no command finds a difference.
+    // Only `lrat` refuses a proof, and only `replay` finds a difference.
     ensures certificate { result.status ≡ Status.CertRefused
         → AreWordsOf (Command.Ask Query.Lrat) words.now }
-    ensures no_difference { result.status ≢ Status.Different }
+    ensures difference { result.status ≡ Status.Different
+        → AreWordsOf (Command.Ask Query.Replay) words.now }
 
     // Nothing is kept but the first line of a proof that isn't right.
     ensures keeps { result.status ≢ Status.CertRefused → result.kept ≡ Kept.Nothing }

@@ -24,6 +24,7 @@ impl Command {
             [word] if word.as_str() == "lrat" => Some(Command::Ask(Query::Lrat)),
             [word] if word.as_str() == "asm" => Some(Command::Ask(Query::Assemble)),
             [word] if word.as_str() == "list" => Some(Command::Ask(Query::List)),
+            [word] if word.as_str() == "replay" => Some(Command::Ask(Query::Replay)),
             _ => None,
         }
     }

@@ -6,9 +6,12 @@ mod calls;
 mod commands;
 mod key_files;
 mod outcomes;
+#[cfg(test)]
+mod problem_tests;
 mod proof_files;
 mod queries;
 mod refusals;
+mod replays;
 mod routines;
 #[cfg(test)]
 mod tests;

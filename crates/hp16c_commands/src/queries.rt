@@ -8,6 +8,7 @@ ghost use Rattle.hp16c_commands.specs.Queries.{WasGiven, WasCutShort, IfGiven};
 use crate::answers::Answer;
 use crate::outcomes::{Kept, Outcome, Status};
 use crate::proof_files::check_proof;
+use crate::replays::replay_start;
 use crate::routines::{assemble_routine, list_routine};
 use hp_io::{Bytes, Failed, ReadStop, Sink, Source, Taken, read_limited, write_whole};
 use std::alloc::{AllocError, Global};
@@ -21,6 +22,8 @@ pub enum Query {
     Assemble,
     /// `list`: reads a routine as codes, and writes its assembly.
     List,
+    /// `replay`: runs both routines of a problem from a start, and writes what is seen of them.
+    Replay,
 }
 
 impl Query {
@@ -31,6 +34,7 @@ impl Query {
         match self {
             Query::Lrat => 268_435_456,
             Query::Assemble | Query::List => 65_536,
+            Query::Replay => 131_072,
         }
     }
 }
@@ -44,6 +48,7 @@ fn find_answer(alloc: Global, query: Query, bytes: &Bytes) -> Result<Answer, All
         Query::Lrat => check_proof(alloc, bytes),
         Query::Assemble => assemble_routine(alloc, bytes),
         Query::List => list_routine(alloc, bytes),
+        Query::Replay => replay_start(alloc, bytes),
     }
 }
 
@@ -86,7 +91,7 @@ pub fn ask<S: Source, K: Sink>(alloc: Global, query: Query, source: &mut S, sink
 
     // When each status comes that the answers don't decide, and when something is kept.
     ensures no_usage { result.status ≢ Status.Usage }
-    ensures no_difference { result.status ≢ Status.Different }
+    ensures difference { result.status ≡ Status.Different → query ≡ Query.Replay }
     ensures certificate { result.status ≡ Status.CertRefused → query ≡ Query.Lrat }
     ensures kept { result.status ≢ Status.CertRefused → result.kept ≡ Kept.Nothing }
     ensures read_cause { result.status ≡ Status.ReadFault

@@ -244,3 +244,83 @@ fn long_routines_are_refused(rt: HostRuntime) -> Result<(), Fail> {
     }
     Ok(())
 }
+
+const DOUBLING: &str =
+    "base 16\nsteps 10\npaths 1\nbudget 65536\nobserve X C\nfirst\nSL\nsecond\nENTER\n+\nend\n";
+
+const START_AT_8000: &str = "start\nX 8000\nY 0\nZ 0\nT 0\nL 0\nI 0\nflags 000000\nM\nend\n";
+
+const ENDLESS: &str =
+    "problem 1\nword 16\nmode 2\nbase 16\nsteps 1000\npaths 1\nbudget 16\nobserve X\nfix M 0\nfirst\nLBL 0\nGTO 0\nsecond\nLBL 0\nGTO 0\nend\n";
+
+#[test]
+fn replays_tell_what_is_seen(rt: HostRuntime) -> Result<(), Fail> {
+    let alloc = rt.alloc();
+    // The pieces of the input, the read and the write that fail; the status's number, and the text.
+    let rows = [
+        (
+            ["problem 1\nword 16\nmode 1\n", DOUBLING, START_AT_8000],
+            (0, 0),
+            1,
+            "first return X 0 C 1\nsecond return X 1 C 1\ndiffer\n",
+        ),
+        (
+            ["problem 1\nword 16\nmode 2\n", DOUBLING, START_AT_8000],
+            (0, 0),
+            0,
+            "first return X 0 C 1\nsecond return X 0 C 1\nagree\n",
+        ),
+        (
+            ["", ENDLESS, START_AT_8000],
+            (0, 0),
+            1,
+            "first late\nsecond late\ndiffer\n",
+        ),
+        (["", "", ""], (0, 0), 4, "bad line 1\n"),
+        (
+            [
+                "problem 1\nword 16\nmode 2\nword 16\n",
+                DOUBLING,
+                START_AT_8000,
+            ],
+            (0, 0),
+            4,
+            "bad line 4\n",
+        ),
+        (
+            ["problem 1\nword 16\n", DOUBLING, START_AT_8000],
+            (0, 0),
+            4,
+            "bad line 3\n",
+        ),
+        (
+            ["problem 1\nword 16\nmode 1\n", DOUBLING, ""],
+            (0, 0),
+            4,
+            "bad line 15\n",
+        ),
+        (
+            ["problem 1\nword 15\nmode 1\n", DOUBLING, START_AT_8000],
+            (0, 0),
+            4,
+            "bad line 16\n",
+        ),
+        (["", ENDLESS, START_AT_8000], (1, 0), 6, ""),
+        (["", ENDLESS, START_AT_8000], (0, 1), 7, ""),
+    ];
+    for (pieces, fails, number, text) in rows {
+        let mut input = String::from_str(alloc, pieces[0])?;
+        input.push_str(pieces[1])?;
+        input.push_str(pieces[2])?;
+        let got = run(alloc, &["replay"], input.as_bytes(), fails)?;
+        assert_eq!(rt; got.status.number(), number, "{text}");
+        assert_eq!(rt; got.text.as_slice(), text.as_bytes(), "{text}");
+    }
+    for (count, number, text) in [(131_072, 4, "bad line 2\n"), (131_073, 5, "limit\n")] {
+        let blanks = vec![in alloc; b' '; count]?;
+        let got = run(alloc, &["replay"], blanks.as_slice(), (0, 0))?;
+        assert_eq!(rt; got.status.number(), number);
+        assert_eq!(rt; got.text.as_slice(), text.as_bytes());
+    }
+    Ok(())
+}
