@@ -8,7 +8,8 @@ ghost use Rattle.hp_asm.specs.Separated.{after};
 use crate::faults::CodeFault;
 use crate::routine::Routine;
 use arrayvec::ArrayString;
-use jd_text::{digit_value, next_line, next_word, push_digit};
+use jd_numbers::{digit_value, push_digit};
+use jd_text::{next_line, next_word};
 
 /// The code of two digits.
 fn code_of_digits(high: u8, low: u8) -> Option<u8>

@@ -7,7 +7,8 @@ ghost use Rattle.jd_problem.specs.Parts.{place_of};
 ghost use Rattle.jd_problem.specs.LineWords.{only_word, ObservesParts};
 
 use crate::parts::{Part, Parts};
-use jd_text::{decimal_number, hexadecimal_number, next_word};
+use jd_numbers::{decimal_number, hexadecimal_number};
+use jd_text::next_word;
 
 /// The word that stands alone from a place of a line on.
 pub fn only_word(line: &[u8], at: usize) -> Option<&[u8]>

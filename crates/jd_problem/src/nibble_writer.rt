@@ -7,7 +7,7 @@ ghost use Rattle.jd_problem.specs.Written.{spaced};
 
 use crate::nibbles::Nibbles;
 use arrayvec::ArrayString;
-use jd_text::push_digit;
+use jd_numbers::push_digit;
 
 /// How many nibbles are written: those up to the last one that isn't zero.
 fn count_written(nibbles: &[u8]) -> usize

@@ -15,7 +15,8 @@ use crate::problem::Problem;
 use crate::problem_fields::{are_nibbles_in, first_fields, nibble_count, nibble_field};
 use crate::start_reading::StartReading;
 use jd_model::ProblemCause;
-use jd_text::{are_digits, digit_value, hexadecimal_number, next_word};
+use jd_numbers::{are_digits, digit_value, hexadecimal_number};
+use jd_text::next_word;
 
 /// The first word of a line by its number from 0. No line follows the last one.
 fn line_name(k: u8) -> &'static [u8]

@@ -5,7 +5,7 @@ ghost use Rattle.jd_model.specs.Texts.{line};
 ghost use Rattle.jd_model.specs.Numbers.{hexadecimal};
 
 use arrayvec::ArrayString;
-use jd_text::{push_decimal, push_hexadecimal};
+use jd_numbers::{push_decimal, push_hexadecimal};
 
 /// Adds a blank and a word.
 pub fn push_word<const CAP: usize>(text: &mut ArrayString<CAP>, word: &str)

@@ -18,12 +18,12 @@ use crate::seen::Seen;
 use arrayvec::ArrayString;
 use hp_io::{Failed, Sink, write_whole};
 use hp_model::End;
+use jd_numbers::push_decimal;
 use jd_problem::nibble_writer::push_nibbles;
 use jd_problem::part_table::{part_at, part_name};
 use jd_problem::start_numbers::first_numbers;
 use jd_problem::word_writer::{push_number, push_word};
 use jd_problem::{Nibbles, Part, Parts, Problem, Start};
-use jd_text::push_decimal;
 
 /// Adds the words of an end.
 fn push_end(text: &mut ArrayString<1024>, end: End)

@@ -1,6 +1,6 @@
 use Rattle.std.proofs.Common.{◌^◌, arith}
-use Rattle.jd_text.proofs.Digits.{within-power, digit-within}
-use Rattle.jd_text.proofs.numbers.number_in.Goals as goal
+use Rattle.jd_numbers.proofs.Digits.{within-power, digit-within}
+use Rattle.jd_numbers.proofs.numbers.number_in.Goals as goal
 
 pub with_digit-n-requires : goal.with_digit-n-requires
 with_digit-n-requires c =

@@ -1,6 +1,6 @@
 use Rattle.std.proofs.Common.{◌≡◌, ◌^◌, ◌<◌, drop}
 use Rattle.jd_model.specs.Numbers.{digits_value, are_digits}
-use Rattle.jd_text.proofs.numbers.number_in.Given as goal
+use Rattle.jd_numbers.proofs.numbers.number_in.Given as goal
 
 -- the digits that are left give what all give
 abbrev pub invariant-loop-b : goal.invariant-loop-b
