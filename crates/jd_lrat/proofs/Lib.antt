@@ -6,10 +6,9 @@ pub mod Pushed
 pub mod Shown
 pub mod Givens
 pub mod Cuts
-pub mod Scans
 pub mod Digit
 pub mod Signs
-pub mod TextLines
+pub mod LineStarts
 pub mod NumberLists
 pub mod LineTexts
 pub mod Counts

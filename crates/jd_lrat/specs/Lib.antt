@@ -4,7 +4,6 @@ pub mod Joined
 pub mod Answers
 pub mod Parts
 pub mod Integers
-pub mod TextLines
 pub mod NumberLists
 pub mod Ranges
 pub mod LineTexts

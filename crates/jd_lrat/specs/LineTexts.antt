@@ -1,14 +1,10 @@
 -- What a reader of lines answers.
-use Rattle.std.specs.Prelude.{◌≡◌, ℕ, ℤ, Bool, true, false, List, [], ◌∷◌, Option, Some, None, Result, Ok, Err, drop}
+use Rattle.std.specs.Prelude.{◌≡◌, ℕ, ℤ, Bool, true, false, List, [], ◌∷◌, Option, Some, None, Result, Ok, Err}
 use Rattle.jd_logic.specs.declared.Line.{Line}
-use Rattle.jd_logic.specs.Words.{words_of}
+use Rattle.jd_text.specs.Places.{words_at}
 use Rattle.jd_logic.specs.LratText.{to_last_zero}
 use Rattle.jd_lrat.specs.declared.faults.ProofText.{ProofText}
 use Rattle.jd_lrat.specs.declared.faults.ProofText.TheVariants.{Syntax, NoMemory}
-
--- the words from a place on
-abbrev pub words_at : List ℕ → ℕ → List (List ℕ)
-words_at text at = words_of (drop at text)
 
 abbrev pub is_nil : List (List ℕ) → Bool
 is_nil [] = true

@@ -8,9 +8,10 @@ ghost use Rattle.jd_lrat.specs.Checks.{IsStepped, progress_of, stepped, verdict_
 use crate::checker::Checker;
 use crate::dimacs::take_cnf;
 use crate::line_text::read_line;
-use crate::text_lines::{is_skipped, next_line};
+use crate::words::is_skipped;
 use crate::{CnfFault, LineFault, NoMemory, ProofText};
 use jd_logic::{BadLine, Line, Verdict};
+use jd_text::next_line;
 use std::alloc::Global;
 
 /// How far the check of a proof has come: the clauses, the number of the next line, and the first

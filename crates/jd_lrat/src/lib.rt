@@ -16,7 +16,6 @@ mod reading;
 mod store;
 #[cfg(test)]
 mod tests;
-mod text_lines;
 mod words;
 
 pub use check::check_text;

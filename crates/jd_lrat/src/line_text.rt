@@ -2,7 +2,8 @@
 ghost use Rattle.std.specs.Prelude.{◌≤◌, length, map};
 ghost use Rattle.jd_logic.specs.Words.{words_of};
 ghost use Rattle.jd_logic.specs.LratText.{deletion_of, derivation_of, line_of};
-ghost use Rattle.jd_lrat.specs.LineTexts.{IsLastList, IsRead, words_at};
+ghost use Rattle.jd_lrat.specs.LineTexts.{IsLastList, IsRead};
+ghost use Rattle.jd_text.specs.Places.{words_at};
 
 use crate::ProofText;
 use crate::integers::{Next, next_integer};

@@ -1,51 +1,19 @@
-//! The words of a text, one after another.
-ghost use Rattle.std.specs.Prelude.{◌≡◌, ℕ, ◌+◌, ◌<◌, ◌≤◌, ◌∷◌, [], false, length, drop, slice_index, slice_range, IfSome, MatchOption, None, Some, ◌*◌, ◌^◌, min};
-ghost use Rattle.jd_logic.specs.Words.{is_separator, words_of, is_digit, is_text, number_of, integer_of, negative_of, natural_of};
-ghost use Rattle.jd_lrat.specs.LineTexts.{is_nil, words_at};
+//! The words of a line: a comment's, those that are always the same, and numbers.
+ghost use Rattle.std.specs.Prelude.{◌≡◌, ◌+◌, ◌<◌, ◌≤◌, length, MatchOption, None, Some, ◌*◌, ◌^◌, min};
+ghost use Rattle.jd_logic.specs.Words.{words_of, is_skipped, is_digit, is_text, number_of, integer_of, negative_of, natural_of};
+ghost use Rattle.jd_text.specs.Places.{words_at};
+ghost use Rattle.jd_lrat.specs.LineTexts.{is_nil};
 ghost use Rattle.jd_lrat.specs.CnfTexts.{after_word};
 ghost use Rattle.jd_lrat.specs.Integers.{IsNumberTo, IsIntegerTo, IsValueTo};
 
-/// Whether a byte stands between words.
-pub fn is_separator(b: u8) -> bool
-    ensures { result ≡ is_separator b }
-{
-    b == b' ' || b == b'\t' || b == b'\r'
-}
+use jd_text::{next_word, skip_separators};
 
-/// The first place from one on that no separator holds.
-pub fn skip(text: &[u8], at: usize) -> usize
-    requires { at ≤ length text.now }
-    ensures same { words_of (drop result text.now) ≡ words_of (drop at text.now) }
-    ensures from { at ≤ result }
-    ensures within { result ≤ length text.now }
-    ensures stops { result < length text.now → is_separator (slice_index text.now result) ≡ false }
+/// Whether a line is a comment, or has no words.
+pub fn is_skipped(line: &[u8]) -> bool
+    ensures { result ≡ is_skipped (words_of line.now) }
 {
-    let mut i = at;
-    while i < text.len() {
-        if !is_separator(text[i]) {
-            return i;
-        }
-        i += 1;
-    }
-    i
-}
-
-/// The end of the word that begins at a place.
-pub fn word_end(text: &[u8], at: usize) -> usize
-    requires within { at < length text.now }
-    requires begins { is_separator (slice_index text.now at) ≡ false }
-    ensures word { words_of (drop at text.now) ≡ slice_range text.now at result ∷ words_of (drop result text.now) }
-    ensures after { at < result }
-    ensures ends { result ≤ length text.now }
-{
-    let mut i = at + 1;
-    while i < text.len() {
-        if is_separator(text[i]) {
-            return i;
-        }
-        i += 1;
-    }
-    i
+    let at = skip_separators(line, 0);
+    at == line.len() || line[at] == b'c'
 }
 
 /// Whether no word is left from a place on.
@@ -53,7 +21,7 @@ pub fn is_done(text: &[u8], at: usize) -> bool
     requires { at ≤ length text.now }
     ensures { result ≡ is_nil (words_at text.now at) }
 {
-    skip(text, at) == text.len()
+    next_word(text, at).is_none()
 }
 
 /// Whether a word is this text.
@@ -70,16 +38,8 @@ pub fn after_word(word: &[u8], text: &[u8], at: usize) -> Option<usize>
         (after_word word.now (words_at text.now at) ≡ None)
         (λ end. (after_word word.now (words_at text.now at) ≡ Some (words_at text.now end)) × (end ≤ length text.now)) }
 {
-    let from = skip(text, at);
-    if from == text.len() {
-        return None;
-    }
-    let end = word_end(text, from);
-    if is_text(word, &text[from..end]) {
-        Some(end)
-    } else {
-        None
-    }
+    let (next, end) = next_word(text, at)?;
+    if is_text(word, next) { Some(end) } else { None }
 }
 
 /// The number that digits are, as far as a bound, or None where the word isn't one.

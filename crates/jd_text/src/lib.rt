@@ -6,4 +6,4 @@ pub mod lines;
 pub mod words;
 
 pub use lines::{count_lines, next_line};
-pub use words::next_word;
+pub use words::{next_word, skip_separators};

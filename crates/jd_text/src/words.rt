@@ -11,7 +11,7 @@ fn is_separator(b: u8) -> bool
 }
 
 /// The first place from one on that no separator holds.
-fn skip(text: &[u8], at: usize) -> usize
+pub fn skip_separators(text: &[u8], at: usize) -> usize
     requires { at ≤ length text.now }
     ensures same { words_of (drop result text.now) ≡ words_of (drop at text.now) }
     ensures from { at ≤ result }
@@ -51,7 +51,7 @@ pub fn next_word(line: &[u8], at: usize) -> Option<(&[u8], usize)>
     requires { at ≤ length line.now }
     ensures { MatchOption result (words_at line.now at ≡ []) (λ r. IsWordTo line.now at r.0.now r.1) }
 {
-    let from = skip(line, at);
+    let from = skip_separators(line, at);
     if from == line.len() {
         return None;
     }

@@ -1,5 +1,5 @@
 use Rattle.jd_lrat.proofs.LineTexts.{ids-fit, deletion-is}
-use Rattle.jd_lrat.specs.LineTexts.{words_at}
+use Rattle.jd_text.specs.Places.{words_at}
 use Rattle.jd_lrat.proofs.line_text.deletion.Goals as goal
 
 pub new-requires : goal.new-requires

@@ -1,4 +1,4 @@
-use Rattle.jd_lrat.specs.LineTexts.{words_at}
+use Rattle.jd_text.specs.Places.{words_at}
 use Rattle.jd_lrat.proofs.LineTexts.{literals-fit, hints-fit}
 use Rattle.jd_lrat.proofs.line_text.derivation.Goals as goal
 
