@@ -5,7 +5,7 @@ ghost use Rattle.jd_model.specs.Replays.{replay_input, replay_text, verdict};
 ghost use Rattle.jd_model.specs.Seen.{agree};
 ghost use Rattle.jd_problem.specs.Problems.{problem_of};
 ghost use Rattle.jd_problem.specs.ProblemTexts.{IsProblemTo};
-ghost use Rattle.jd_problem.specs.Starts.{start_data};
+ghost use Rattle.jd_start.specs.Starts.{start_data};
 ghost use Rattle.hp16c_commands.specs.Answers.{told};
 ghost use Rattle.hp16c_commands.specs.Queries.{limit_of};
 ghost use Rattle.hp16c_commands.specs.Replay.{status_of_agreement, replay_answer};

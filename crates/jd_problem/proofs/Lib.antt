@@ -1,6 +1,5 @@
 pub mod Numbers
 pub mod FieldLists
-pub mod FlagLists
 pub mod ProblemRanges
 pub mod Observed
 pub mod FixedParts
@@ -8,6 +7,5 @@ pub mod LinesRead
 pub mod PartLines
 pub mod Listings
 pub mod WholeTexts
-pub mod NibbleTexts
 pub mod StartLines
 pub mod StartsAllowed

@@ -9,8 +9,8 @@ use Rattle.std.proofs.lemmas.List.Quantifiers.{position-Some}
 use Rattle.jd_logic.specs.Words.{is_text}
 use Rattle.jd_model.specs.ProblemLines.{part_names, part_named, with_part, parts_named}
 use Rattle.jd_model.specs.ProblemTexts.{has_twice, marked}
-use Rattle.jd_problem.specs.declared.parts.Parts.{Parts}
-use Rattle.jd_problem.specs.Parts.{marks_of}
+use Rattle.jd_start.specs.declared.parts.Parts.{Parts}
+use Rattle.jd_start.specs.Parts.{marks_of}
 use Rattle.jd_problem.specs.LineWords.{ObservesParts}
 
 -- the marks after the words that are left, and whether a part was named twice

@@ -8,8 +8,8 @@ use Rattle.jd_model.specs.Problems.{IsProblem}
 use Rattle.jd_problem.specs.declared.problem.Problem.{Problem}
 use Rattle.jd_problem.specs.Problems.{problem_of}
 
-pub is-problem : (p : Problem) → length p.observed.flags ≡ 6 → length p.fixed.flags ≡ 6 → IsRoutine p.first → IsRoutine p.second → IsProblem (problem_of p)
-is-problem p observed fixed first second = record {
+pub is-problem : (p : Problem) → IsRoutine p.first → IsRoutine p.second → IsProblem (problem_of p)
+is-problem p first second = record {
   size_least = p.size.at_least_one;
   size_most = p.size.at_most_64;
   steps_least = p.steps_least;
@@ -18,8 +18,8 @@ is-problem p observed fixed first second = record {
   paths_most = p.paths_most;
   budget_least = p.budget_least;
   budget_most = p.budget_most;
-  observed_count = omega (arith, observed, length_push p.observed.flags p.observed.memory);
-  fixed_count = omega (arith, fixed, length-map p.fixed.flags (option_map bit_number), length_push (map (option_map bit_number) p.fixed.flags) (if p.fixed.memory then Some 0 else None));
+  observed_count = omega (arith, p.observed.six_flags, length_push p.observed.flags p.observed.memory);
+  fixed_count = omega (arith, p.fixed.six_flags, length-map p.fixed.flags (option_map bit_number), length_push (map (option_map bit_number) p.fixed.flags) (if p.fixed.memory then Some 0 else None));
   fixed_within = p.fixed_within;
   first_routine = first;
   second_routine = second;

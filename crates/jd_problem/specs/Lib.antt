@@ -1,10 +1,6 @@
 pub mod Fields
-pub mod Nibbles
-pub mod Parts
 pub mod Problems
-pub mod Starts
 pub mod StartReadings
 pub mod LineWords
 pub mod Readings
 pub mod ProblemTexts
-pub mod Written

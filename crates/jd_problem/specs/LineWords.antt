@@ -2,8 +2,8 @@
 use Rattle.std.specs.Prelude.{◌≡◌, ℕ, Bool, false, List, [], ◌∷◌, Option, Some, None, replicate}
 use Rattle.jd_model.specs.ProblemLines.{parts_named}
 use Rattle.jd_model.specs.ProblemTexts.{has_twice, marked}
-use Rattle.jd_problem.specs.declared.parts.Parts.{Parts}
-use Rattle.jd_problem.specs.Parts.{marks_of}
+use Rattle.jd_start.specs.declared.parts.Parts.{Parts}
+use Rattle.jd_start.specs.Parts.{marks_of}
 
 -- the word, where there is one
 abbrev pub only_word : List (List ℕ) → Option (List ℕ)

@@ -1,7 +1,7 @@
 -- A problem as the definitions see it.
 use Rattle.jd_model.specs.Problems.{Problem as ProblemValue}
 use Rattle.jd_problem.specs.declared.problem.Problem.{Problem}
-use Rattle.jd_problem.specs.Parts.{marks_of, values_of}
+use Rattle.jd_start.specs.Parts.{marks_of, values_of}
 
 abbrev pub problem_of : Problem → ProblemValue
 problem_of p = record {

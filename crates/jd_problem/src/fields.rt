@@ -6,10 +6,8 @@ ghost use Rattle.jd_model.specs.Problems.{Field as FieldValue, is_fixed_below, i
 
 use arrayvec::ArrayVec;
 use hp_words::WordSize;
+use jd_start::{FIRST_NUMBERS, bit_number};
 use std::marker::Model;
-
-/// How many numbers a start has but for the nibbles.
-pub const FIRST_NUMBERS: usize = 12;
 
 /// A number of a start: how many bits it has, 1 to 64, and what it is fixed at.
 #[derive(Drop)]
@@ -27,14 +25,6 @@ impl Model for Field {
     ghost view = { λ f. record { width = f.width; fixed = f.fixed } };
 
     ghost invariant = { λ f. (1 ≤ f.width) × (f.width ≤ 64) };
-}
-
-/// A bit as a number.
-pub fn bit_number(bit: bool) -> u64
-    ensures value { result ≡ bit_number bit }
-    ensures bound { result ≤ 1 }
-{
-    u64::from(bit)
 }
 
 /// The number whose bits these are, lowest first.

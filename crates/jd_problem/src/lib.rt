@@ -2,39 +2,28 @@
 //! their texts. Nothing here takes memory.
 #![tactic(auto)]
 
-pub mod bits;
 mod faults;
 mod fields;
 mod line_kinds;
 mod line_words;
-pub mod nibble_writer;
-pub mod nibbles;
-pub mod part_table;
-pub mod parts;
 pub mod problem;
 mod problem_fields;
 mod problem_lines;
 mod problem_reader;
 mod problem_writer;
 mod reading;
-pub mod start;
 mod start_lines;
-pub mod start_numbers;
 mod start_reader;
 mod start_reading;
 mod start_writer;
-pub mod word_writer;
 
-pub use bits::Bits;
 pub use faults::ProblemFault;
 pub use hp_asm::{AsmCause, Routine};
 pub use hp_words::{Base, Content, Mode, WordSize};
 pub use jd_model::ProblemCause;
-pub use nibbles::Nibbles;
-pub use parts::{Fixed, Part, Parts};
+pub use jd_start::{Bits, Fixed, Nibbles, Part, Parts, Start};
 pub use problem::Problem;
 pub use problem_reader::read_problem;
 pub use problem_writer::write_problem;
-pub use start::Start;
 pub use start_reader::read_start;
 pub use start_writer::write_start;

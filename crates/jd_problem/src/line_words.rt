@@ -3,11 +3,11 @@ ghost use Rattle.std.specs.Prelude.{◌≡◌, ◌≤◌, [], ◌∷◌, length,
 ghost use Rattle.jd_logic.specs.Words.{words_of};
 ghost use Rattle.jd_text.specs.Places.{words_at};
 ghost use Rattle.jd_model.specs.ProblemLines.{number, part_at, one_number, parts_named, one_part_and_value};
-ghost use Rattle.jd_problem.specs.Parts.{place_of};
+ghost use Rattle.jd_start.specs.Parts.{place_of};
 ghost use Rattle.jd_problem.specs.LineWords.{only_word, ObservesParts};
 
-use crate::parts::{Part, Parts};
 use jd_numbers::{decimal_number, hexadecimal_number};
+use jd_start::{Part, Parts};
 use jd_text::next_word;
 
 /// The word that stands alone from a place of a line on.

@@ -3,16 +3,13 @@ ghost use Rattle.std.specs.Prelude.{◌≡◌, ◌≤◌, true, length};
 ghost use Rattle.hp_model.specs.State.{blocks_of};
 ghost use Rattle.jd_model.specs.Assembly.{IsRoutine};
 ghost use Rattle.jd_model.specs.Problems.{are_fixed_from};
-ghost use Rattle.jd_problem.specs.Parts.{values_of};
+ghost use Rattle.jd_start.specs.Parts.{values_of};
 
-use crate::bits::Bits;
 use crate::fields::{are_in_fields, free_widths, numbers_in};
-use crate::parts::{Fixed, Parts};
 use crate::problem_fields::{allows_nibbles, first_fields, free_nibble_bits, nibbles_in};
-use crate::start::Start;
-use crate::start_numbers::{first_numbers, start_with};
 use hp_asm::Routine;
 use hp_words::{Base, Mode, WordSize};
+use jd_start::{Bits, Fixed, Parts, Start, first_numbers, start_with};
 
 /// Whether two routines agree from each start: with how many bits, in which mode and base they run,
 /// for at most how many steps each, which parts of the outcome are observed, and which parts of a
@@ -54,7 +51,7 @@ impl Problem {
     ghost use Rattle.std.specs.Prelude.{◌≡◌, ◌≤◌, length, true};
     ghost use Rattle.jd_model.specs.Problems.{IsProblem, blocks, free_bits, allows, start_of};
     ghost use Rattle.jd_problem.specs.Problems.{problem_of};
-    ghost use Rattle.jd_problem.specs.Starts.{start_data};
+    ghost use Rattle.jd_start.specs.Starts.{start_data};
 
     /// The blocks of seven bytes that belong to the program in both runs, which are those of the longer routine.
     pub fn blocks(&self) -> u8

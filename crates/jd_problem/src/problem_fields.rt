@@ -1,14 +1,13 @@
 // The fields of a problem's starts.
 ghost use Rattle.std.specs.Prelude.{◌≡◌, ◌+◌, ◌≤◌, true, length, drop, replicate};
 ghost use Rattle.jd_model.specs.Problems.{IsProblem, field, nibble_count, is_fixed_below, are_in_fields, free_widths, numbers_in};
-ghost use Rattle.jd_problem.specs.Parts.{place_of};
+ghost use Rattle.jd_start.specs.Parts.{place_of};
 ghost use Rattle.jd_problem.specs.Problems.{problem_of};
 ghost use Rattle.jd_problem.specs.Fields.{first_fields, nibble_fields};
 
-use crate::fields::{FIRST_NUMBERS, Field};
-use crate::nibbles::Nibbles;
-use crate::parts::Part;
+use crate::fields::Field;
 use crate::problem::Problem;
+use jd_start::{FIRST_NUMBERS, Nibbles, Part};
 
 /// The field of a part's number.
 fn field(problem: &Problem, width: u8, part: Part) -> Field

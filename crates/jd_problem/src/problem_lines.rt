@@ -4,18 +4,18 @@ ghost use Rattle.jd_logic.specs.Words.{words_of};
 ghost use Rattle.jd_model.specs.Problems.{part_limit};
 ghost use Rattle.jd_model.specs.ProblemLines.{number, due_before, is_in_range};
 ghost use Rattle.jd_model.specs.ProblemTexts.{mode_of, base_of, with_said, assembly_line, with_problem_line};
-ghost use Rattle.jd_problem.specs.Parts.{place_of, values_of};
+ghost use Rattle.jd_start.specs.Parts.{place_of, values_of};
 ghost use Rattle.jd_problem.specs.Problems.{problem_of};
 ghost use Rattle.jd_problem.specs.Readings.{reading_of, order_cause, is_number_line, is_section_word, line_of_kind};
 
 use crate::line_kinds::{due_before, is_in_range, kind_of};
 use crate::line_words::{observed_parts, one_number, part_and_value};
-use crate::parts::Part;
 use crate::problem::Problem;
 use crate::reading::Reading;
 use hp_asm::take_line;
 use hp_words::{Base, Mode, WordSize};
 use jd_model::{LineKind, ProblemCause};
+use jd_start::Part;
 use jd_text::next_word;
 
 /// The mode with a number.

@@ -10,18 +10,16 @@ ghost use Rattle.jd_model.specs.ProblemLines.{part_names};
 ghost use Rattle.jd_model.specs.ProblemWriter.{chosen, fix_line, fix_lines, routine_lines, mode_number, header_lines, problem_lines, problem_text};
 ghost use Rattle.jd_model.specs.ProblemTexts.{problem_of as problem_of_text};
 ghost use Rattle.jd_model.specs.Problems.{IsProblem};
-ghost use Rattle.jd_problem.specs.Parts.{marks_of, values_of};
+ghost use Rattle.jd_start.specs.Parts.{marks_of, values_of};
 ghost use Rattle.jd_problem.specs.Problems.{problem_of};
-ghost use Rattle.jd_problem.specs.Written.{spaced};
+ghost use Rattle.jd_start.specs.Written.{spaced};
 
-use crate::part_table::{part_at, part_name};
-use crate::parts::{Fixed, Parts};
 use crate::problem::Problem;
-use crate::word_writer::{push_decimal_line, push_number, push_word};
 use arrayvec::ArrayString;
 use hp_asm::{Routine, list};
 use hp_io::{Failed, Sink, write_whole};
 use hp_words::{Base, Mode};
+use jd_start::{Fixed, Parts, part_at, part_name, push_decimal_line, push_number, push_word};
 
 /// Room for the text of any problem.
 const ROOM: usize = 4224;

@@ -1,11 +1,11 @@
 // A problem as far as it is read.
 ghost use Rattle.std.specs.Prelude.{◌≡◌, ◌<◌, ◌≤◌, false, None, replicate};
-ghost use Rattle.jd_problem.specs.Parts.{marks_of, values_of};
+ghost use Rattle.jd_start.specs.Parts.{marks_of, values_of};
 
-use crate::parts::{Fixed, Parts};
 use crate::problem::Problem;
 use hp_asm::Routine;
 use hp_words::{Base, Mode, WordSize};
+use jd_start::{Fixed, Parts};
 
 /// How many headers and section words were given, which are always the first ones in their order,
 /// and what the lines said. What no line has said yet is the least of its range.

@@ -10,12 +10,12 @@ ghost use Rattle.jd_problem.specs.StartReadings.{first_given};
 
 use crate::fields::are_in_fields;
 use crate::line_words::only_word;
-use crate::nibbles::Nibbles;
 use crate::problem::Problem;
 use crate::problem_fields::{are_nibbles_in, first_fields, nibble_count, nibble_field};
 use crate::start_reading::StartReading;
 use jd_model::ProblemCause;
 use jd_numbers::{are_digits, digit_value, hexadecimal_number};
+use jd_start::Nibbles;
 use jd_text::next_word;
 
 /// The first word of a line by its number from 0. No line follows the last one.

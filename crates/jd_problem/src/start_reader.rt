@@ -3,14 +3,14 @@ ghost use Rattle.std.specs.Prelude.{◌≡◌, ◌+◌, ◌<◌, ◌^◌, true, 
 ghost use Rattle.jd_model.specs.Problems.{allows};
 ghost use Rattle.jd_model.specs.StartTexts.{start_of_text};
 ghost use Rattle.jd_problem.specs.Problems.{problem_of};
-ghost use Rattle.jd_problem.specs.Starts.{start_data};
+ghost use Rattle.jd_start.specs.Starts.{start_data};
 
 use crate::faults::ProblemFault;
 use crate::problem::Problem;
-use crate::start::Start;
 use crate::start_lines::take_start_line;
 use crate::start_reading::StartReading;
 use jd_model::ProblemCause;
+use jd_start::Start;
 use jd_text::next_line;
 
 /// The start that a text says, for a problem: `start`, the words X, Y, Z, T, L and I each with a number

@@ -4,11 +4,8 @@ ghost use Rattle.jd_model.specs.Problems.{start_with};
 ghost use Rattle.jd_model.specs.StartTexts.{nothing_started};
 ghost use Rattle.jd_problem.specs.StartReadings.{first_given};
 
-use crate::fields::FIRST_NUMBERS;
-use crate::nibbles::Nibbles;
-use crate::start::Start;
-use crate::start_numbers::start_with;
 use arrayvec::ArrayVec;
+use jd_start::{FIRST_NUMBERS, Nibbles, Start, start_with};
 use std::marker::Model;
 
 /// How many lines of a start were given, and their numbers. Contracts see the definitions' reading.
@@ -31,7 +28,7 @@ impl Model for StartReading {
 }
 
 impl StartReading {
-    ghost use Rattle.jd_problem.specs.Starts.{start_data};
+    ghost use Rattle.jd_start.specs.Starts.{start_data};
 
     /// The reading before any line.
     pub fn new() -> StartReading

@@ -8,15 +8,12 @@ ghost use Rattle.jd_model.specs.Texts.{line};
 ghost use Rattle.jd_model.specs.Problems.{allows};
 ghost use Rattle.jd_model.specs.StartTexts.{flags_text, memory_words, start_of_text, start_text};
 ghost use Rattle.jd_problem.specs.Problems.{problem_of};
-ghost use Rattle.jd_problem.specs.Starts.{start_data};
+ghost use Rattle.jd_start.specs.Starts.{start_data};
 
-use crate::nibble_writer::push_nibbles;
-use crate::nibbles::Nibbles;
 use crate::problem::Problem;
-use crate::start::Start;
-use crate::word_writer::push_number_line;
 use arrayvec::ArrayString;
 use hp_io::{Failed, Sink, write_whole};
+use jd_start::{Nibbles, Start, push_nibbles, push_number_line};
 
 /// The digit of a flag.
 fn flag_digit(flag: bool) -> char

@@ -6,8 +6,8 @@ use Rattle.std.proofs.lemmas.List.{drop_all}
 use Rattle.jd_model.specs.Numbers.{hexadecimal}
 use Rattle.jd_model.specs.ProblemWriter.{chosen}
 use Rattle.jd_model.specs.Seen.{named}
-use Rattle.jd_problem.specs.Written.{spaced}
-use Rattle.jd_problem.proofs.PartLines.{chosen-next}
+use Rattle.jd_start.specs.Written.{spaced}
+use Rattle.jd_start.proofs.PartByPart.{chosen-next}
 use Rattle.jd_replay.specs.Phrases.{phrases}
 
 phrases-append : (a b : List (List (List ℕ))) → phrases (a ++ b) ≡ phrases a ++ phrases b

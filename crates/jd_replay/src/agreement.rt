@@ -1,16 +1,15 @@
 // Whether two runs are seen the same.
 ghost use Rattle.std.specs.Prelude.{◌≡◌, ◌<◌, bytes_eq};
 ghost use Rattle.jd_model.specs.Seen.{same_end, agree_on};
-ghost use Rattle.jd_problem.specs.Parts.{marks_of};
-ghost use Rattle.jd_problem.specs.Starts.{start_data};
+ghost use Rattle.jd_start.specs.Parts.{marks_of};
+ghost use Rattle.jd_start.specs.Starts.{start_data};
 ghost use Rattle.jd_replay.specs.Agreement.{same_at, same_numbers, same_parts};
 ghost use Rattle.jd_replay.specs.Seen.{seen_of};
 
 use crate::seen::Seen;
 use hp_model::End;
-use jd_problem::part_table::part_at;
-use jd_problem::start_numbers::first_numbers;
-use jd_problem::{Nibbles, Part, Parts, Problem, Start};
+use jd_problem::Problem;
+use jd_start::{Nibbles, Part, Parts, Start, first_numbers, part_at};
 
 /// Whether two runs end in the same way, errors with the same number.
 fn same_end(first: End, second: End) -> bool

@@ -5,14 +5,15 @@ ghost use Rattle.hp_core.specs.Machines.{data_of};
 ghost use Rattle.jd_model.specs.Problems.{allows, blocks};
 ghost use Rattle.jd_model.specs.Seen.{seen};
 ghost use Rattle.jd_problem.specs.Problems.{problem_of};
-ghost use Rattle.jd_problem.specs.Starts.{start_data};
+ghost use Rattle.jd_start.specs.Starts.{start_data};
 ghost use Rattle.jd_replay.specs.Seen.{seen_of};
 
 use crate::seen::Seen;
 use hp_core::Machine;
 use hp_nibbles::Memory;
 use hp_run::{RunEnd, run};
-use jd_problem::{Content, Nibbles, Problem, Routine, Start};
+use jd_problem::{Content, Problem, Routine};
+use jd_start::{Nibbles, Start};
 
 /// The same content once more.
 fn copied(content: &Content) -> Content

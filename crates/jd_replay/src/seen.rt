@@ -1,6 +1,6 @@
 //! What is seen of a run.
 use hp_model::End;
-use jd_problem::Start;
+use jd_start::Start;
 
 /// What is seen of a run: that it wasn't over after the problem's steps, or how it ended and the
 /// state there.

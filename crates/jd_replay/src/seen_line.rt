@@ -7,10 +7,10 @@ ghost use Rattle.jd_model.specs.Numbers.{hexadecimal};
 ghost use Rattle.jd_model.specs.ProblemWriter.{chosen};
 ghost use Rattle.jd_model.specs.StartTexts.{memory_words};
 ghost use Rattle.jd_model.specs.Seen.{end_words, part_words, seen_words, seen_text, seen_line};
-ghost use Rattle.jd_problem.specs.Parts.{marks_of};
+ghost use Rattle.jd_start.specs.Parts.{marks_of};
 ghost use Rattle.jd_problem.specs.Problems.{problem_of};
-ghost use Rattle.jd_problem.specs.Starts.{start_data};
-ghost use Rattle.jd_problem.specs.Written.{spaced};
+ghost use Rattle.jd_start.specs.Starts.{start_data};
+ghost use Rattle.jd_start.specs.Written.{spaced};
 ghost use Rattle.jd_replay.specs.Phrases.{phrases};
 ghost use Rattle.jd_replay.specs.Seen.{seen_of};
 
@@ -19,11 +19,11 @@ use arrayvec::ArrayString;
 use hp_io::{Failed, Sink, write_whole};
 use hp_model::End;
 use jd_numbers::push_decimal;
-use jd_problem::nibble_writer::push_nibbles;
-use jd_problem::part_table::{part_at, part_name};
-use jd_problem::start_numbers::first_numbers;
-use jd_problem::word_writer::{push_number, push_word};
-use jd_problem::{Nibbles, Part, Parts, Problem, Start};
+use jd_problem::Problem;
+use jd_start::{
+    Nibbles, Part, Parts, Start, first_numbers, part_at, part_name, push_nibbles, push_number,
+    push_word,
+};
 
 /// Adds the words of an end.
 fn push_end(text: &mut ArrayString<1024>, end: End)

@@ -3,7 +3,7 @@ use Rattle.std.specs.Prelude.{MatchOption}
 use Rattle.jd_logic.specs.Words.{words_of}
 use Rattle.jd_text.specs.Places.{words_at}
 use Rattle.jd_model.specs.ProblemLines.{parts_named}
-use Rattle.jd_problem.specs.Parts.{marks_of}
+use Rattle.jd_start.specs.Parts.{marks_of}
 use Rattle.jd_problem.specs.LineWords.{ObservesParts}
 use Rattle.jd_problem.proofs.Observed.{observed-end, observed-stop}
 use Rattle.jd_problem.proofs.line_words.observed_parts.Goals as goal

@@ -1,6 +1,6 @@
 use Rattle.std.proofs.Common.{ap, ◌∙◌, arith}
 use Rattle.jd_model.specs.Problems.{are_fixed_from}
-use Rattle.jd_problem.specs.Parts.{place_of, values_of}
+use Rattle.jd_start.specs.Parts.{place_of, values_of}
 use Rattle.jd_problem.proofs.FixedParts.{are_fixed-set}
 use Rattle.jd_problem.proofs.problem_lines.fix.Goals as goal
 

@@ -1,14 +1,13 @@
-use Rattle.std.proofs.Common.{arith}
 use Rattle.jd_model.specs.ProblemLines.{part_names}
 use Rattle.jd_model.specs.ProblemWriter.{header_lines, fix_lines, routine_lines}
-use Rattle.jd_problem.specs.Parts.{values_of}
+use Rattle.jd_start.specs.Parts.{values_of}
 use Rattle.jd_problem.specs.Problems.{problem_of}
 use Rattle.jd_problem.proofs.ProblemRanges.{is-problem}
 use Rattle.jd_problem.proofs.WholeTexts.{whole-problem}
 use Rattle.jd_problem.proofs.problem_writer.problem_text.Goals as goal
 
 pub returns-clause-ranges : goal.returns-clause-ranges
-returns-clause-ranges c = is-problem c.args.problem.now (omega arith) (omega arith) c.push_routine.ensures.routine c.push_routine-2.ensures.routine
+returns-clause-ranges c = is-problem c.args.problem.now c.push_routine.ensures.routine c.push_routine-2.ensures.routine
 
 pub returns-clause-text : goal.returns-clause-text
 returns-clause-text c =

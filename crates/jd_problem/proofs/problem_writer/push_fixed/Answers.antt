@@ -2,8 +2,9 @@ use Rattle.std.proofs.Common.{arith, ap, ◌∙◌, ◌+◌, ◌++◌, [], get_o
 use Rattle.jd_model.specs.Texts.{written}
 use Rattle.jd_model.specs.ProblemLines.{part_names}
 use Rattle.jd_model.specs.ProblemWriter.{fix_line, fix_lines}
-use Rattle.jd_problem.specs.Parts.{values_of}
-use Rattle.jd_problem.proofs.PartLines.{goes-on, fixed-next}
+use Rattle.jd_start.specs.Parts.{values_of}
+use Rattle.jd_start.proofs.PartByPart.{goes-on}
+use Rattle.jd_problem.proofs.PartLines.{fixed-next}
 use Rattle.jd_problem.proofs.problem_writer.push_fixed.Goals as goal
 
 pub loop-place-preserved : goal.loop-place-preserved

@@ -3,7 +3,7 @@ use Rattle.arrayvec.specs.ArrayString.{array_string_len}
 use Rattle.jd_model.specs.Texts.{written}
 use Rattle.jd_model.specs.ProblemLines.{part_names}
 use Rattle.jd_model.specs.ProblemWriter.{fix_lines}
-use Rattle.jd_problem.specs.Parts.{values_of}
+use Rattle.jd_start.specs.Parts.{values_of}
 use Rattle.jd_problem.proofs.problem_writer.push_fixed.Given as goal
 
 -- with the lines that are left the text is whole

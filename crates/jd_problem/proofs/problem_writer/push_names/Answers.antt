@@ -1,9 +1,10 @@
 use Rattle.std.proofs.Common.{arith, ap, ◌∙◌, ◌+◌, ◌++◌, ◌∷◌, [], cond, get_or, drop, false}
 use Rattle.jd_model.specs.ProblemLines.{part_names}
 use Rattle.jd_model.specs.ProblemWriter.{chosen}
-use Rattle.jd_problem.specs.Parts.{marks_of}
-use Rattle.jd_problem.specs.Written.{spaced}
-use Rattle.jd_problem.proofs.PartLines.{goes-on, names-next}
+use Rattle.jd_start.specs.Parts.{marks_of}
+use Rattle.jd_start.specs.Written.{spaced}
+use Rattle.jd_start.proofs.PartByPart.{goes-on}
+use Rattle.jd_problem.proofs.PartLines.{names-next}
 use Rattle.jd_problem.proofs.problem_writer.push_names.Goals as goal
 
 pub loop-place-preserved : goal.loop-place-preserved

@@ -2,8 +2,8 @@ use Rattle.std.proofs.Common.{◌≡◌, ◌+◌, ◌*◌, ◌≤◌, ◌++◌, 
 use Rattle.arrayvec.specs.ArrayString.{array_string_len}
 use Rattle.jd_model.specs.ProblemLines.{part_names}
 use Rattle.jd_model.specs.ProblemWriter.{chosen}
-use Rattle.jd_problem.specs.Written.{spaced}
-use Rattle.jd_problem.specs.Parts.{marks_of}
+use Rattle.jd_start.specs.Written.{spaced}
+use Rattle.jd_start.specs.Parts.{marks_of}
 use Rattle.jd_problem.proofs.problem_writer.push_names.Given as goal
 
 -- with the names that are left the text is whole

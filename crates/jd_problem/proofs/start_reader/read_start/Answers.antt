@@ -1,7 +1,7 @@
 use Rattle.std.proofs.Common.{arith}
 use Rattle.std.proofs.lemmas.Grind.{common_steps}
 use Rattle.jd_problem.specs.Problems.{problem_of}
-use Rattle.jd_problem.specs.Starts.{start_data}
+use Rattle.jd_start.specs.Starts.{start_data}
 use Rattle.jd_problem.proofs.StartsAllowed.{started-allowed}
 use Rattle.jd_problem.proofs.start_reader.read_start.Goals as goal
 

@@ -1,5 +1,5 @@
 use Rattle.std.proofs.Common.{◌∙◌, sym, arith}
-use Rattle.jd_problem.specs.Parts.{marks_of}
+use Rattle.jd_start.specs.Parts.{marks_of}
 use Rattle.jd_replay.proofs.Observed.{same-left, same-stopped, same-at-end}
 use Rattle.jd_replay.proofs.agreement.same_numbers.Goals as goal
 

@@ -1,7 +1,7 @@
 use Rattle.std.proofs.Common.{◌≡◌, ◌∙◌, ap, false, get_or, refl}
 use Rattle.jd_model.specs.Problems.{first_numbers}
-use Rattle.jd_problem.specs.Parts.{marks_of}
-use Rattle.jd_problem.specs.Starts.{start_data}
+use Rattle.jd_start.specs.Parts.{marks_of}
+use Rattle.jd_start.specs.Starts.{start_data}
 use Rattle.jd_replay.specs.Agreement.{same_numbers}
 use Rattle.jd_replay.proofs.Observed.{parts-decided}
 use Rattle.jd_replay.proofs.agreement.same_parts.Goals as goal

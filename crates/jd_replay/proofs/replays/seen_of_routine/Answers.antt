@@ -1,7 +1,7 @@
 use Rattle.std.proofs.Common.{◌∙◌, ap, sym, length}
 use Rattle.hp_model.specs.State.{register_nibbles}
 use Rattle.jd_problem.specs.Problems.{problem_of}
-use Rattle.jd_problem.specs.Starts.{start_data}
+use Rattle.jd_start.specs.Starts.{start_data}
 use Rattle.jd_replay.proofs.Allowed.{has-parts}
 use Rattle.jd_replay.proofs.replays.seen_of_routine.Goals as goal
 

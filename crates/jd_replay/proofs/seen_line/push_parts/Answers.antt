@@ -5,9 +5,9 @@ use Rattle.jd_model.specs.ProblemLines.{part_names}
 use Rattle.jd_model.specs.ProblemWriter.{chosen}
 use Rattle.jd_model.specs.StartTexts.{memory_words}
 use Rattle.jd_model.specs.Seen.{part_words}
-use Rattle.jd_problem.specs.Parts.{marks_of}
-use Rattle.jd_problem.specs.Starts.{start_data}
-use Rattle.jd_problem.proofs.PartLines.{goes-on}
+use Rattle.jd_start.specs.Parts.{marks_of}
+use Rattle.jd_start.specs.Starts.{start_data}
+use Rattle.jd_start.proofs.PartByPart.{goes-on}
 use Rattle.jd_replay.specs.Phrases.{phrases}
 use Rattle.jd_replay.proofs.PartPhrases.{named-phrase, phrases-next, count-phrases, last-phrase, phrases-end}
 use Rattle.jd_replay.proofs.seen_line.push_parts.Goals as goal

@@ -2,8 +2,8 @@ use Rattle.std.proofs.Common.{◌≡◌, ◌+◌, ◌*◌, ◌≤◌, ◌++◌, 
 use Rattle.arrayvec.specs.ArrayString.{array_string_len}
 use Rattle.jd_model.specs.ProblemWriter.{chosen}
 use Rattle.jd_model.specs.Seen.{part_words}
-use Rattle.jd_problem.specs.Parts.{marks_of}
-use Rattle.jd_problem.specs.Starts.{start_data}
+use Rattle.jd_start.specs.Parts.{marks_of}
+use Rattle.jd_start.specs.Starts.{start_data}
 use Rattle.jd_replay.specs.Phrases.{phrases}
 use Rattle.jd_replay.proofs.seen_line.push_parts.Given as goal
 

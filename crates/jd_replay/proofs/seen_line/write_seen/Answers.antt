@@ -1,7 +1,7 @@
 use Rattle.std.proofs.Common.{◌+◌, ◌∙◌, subst, length, take}
 use Rattle.std.specs.Io.KnownBytes.{Appends}
 use Rattle.jd_model.specs.Seen.{seen_text}
-use Rattle.jd_problem.specs.Parts.{marks_of}
+use Rattle.jd_start.specs.Parts.{marks_of}
 use Rattle.jd_replay.specs.Seen.{seen_of}
 use Rattle.jd_replay.proofs.TwoParts.{second-part}
 use Rattle.jd_replay.proofs.seen_line.write_seen.Goals as goal

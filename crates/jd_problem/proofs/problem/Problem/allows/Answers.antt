@@ -1,5 +1,5 @@
 use Rattle.jd_problem.specs.Problems.{problem_of}
-use Rattle.jd_problem.specs.Starts.{start_data}
+use Rattle.jd_start.specs.Starts.{start_data}
 use Rattle.jd_problem.proofs.FieldLists.{allows-then, allows-else}
 use Rattle.jd_problem.proofs.problem.Problem.allows.Goals as goal
 

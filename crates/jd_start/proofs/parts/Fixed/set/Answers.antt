@@ -1,8 +1,8 @@
 use Rattle.std.proofs.Common.{◌<◌, ap, subst, arith, lit<}
 use Rattle.jd_model.specs.Problems.{part_limit}
-use Rattle.jd_problem.specs.Parts.{place_of}
-use Rattle.jd_problem.proofs.FlagLists.{values_of-flag, values_of-memory}
-use Rattle.jd_problem.proofs.parts.Fixed.set.Goals as goal
+use Rattle.jd_start.specs.Parts.{place_of}
+use Rattle.jd_start.proofs.FlagLists.{values_of-flag, values_of-memory}
+use Rattle.jd_start.proofs.parts.Fixed.set.Goals as goal
 
 pub returns-in-F0 : goal.returns-in-F0
 returns-in-F0 c =

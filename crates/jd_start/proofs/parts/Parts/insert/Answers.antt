@@ -1,7 +1,7 @@
 use Rattle.std.proofs.Common.{ap, arith, lit<}
-use Rattle.jd_problem.specs.Parts.{place_of}
-use Rattle.jd_problem.proofs.FlagLists.{marks_of-flag, marks_of-memory}
-use Rattle.jd_problem.proofs.parts.Parts.insert.Goals as goal
+use Rattle.jd_start.specs.Parts.{place_of}
+use Rattle.jd_start.proofs.FlagLists.{marks_of-flag, marks_of-memory}
+use Rattle.jd_start.proofs.parts.Parts.insert.Goals as goal
 
 pub returns-in-F0 : goal.returns-in-F0
 returns-in-F0 c = marks_of-flag c.args.self.now c.args.part (omega arith) 0 (ap place_of c.in-F0.is) (lit< tt)

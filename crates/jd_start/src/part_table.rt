@@ -1,7 +1,7 @@
 //! The parts of a start in their order.
 ghost use Rattle.std.specs.Prelude.{◌≡◌, ◌<◌, ◌≤◌, [], length, slice_index_or};
 ghost use Rattle.jd_model.specs.ProblemLines.{part_names};
-ghost use Rattle.jd_problem.specs.Parts.{place_of};
+ghost use Rattle.jd_start.specs.Parts.{place_of};
 
 use crate::parts::Part;
 

@@ -1,6 +1,6 @@
 use Rattle.std.proofs.Common.{◌-◌, ◌∙◌, arith}
-use Rattle.jd_problem.proofs.NibbleTexts.{front-zero, front-digit}
-use Rattle.jd_problem.proofs.nibble_writer.count_written.Goals as goal
+use Rattle.jd_start.proofs.NibbleTexts.{front-zero, front-digit}
+use Rattle.jd_start.proofs.nibble_writer.count_written.Goals as goal
 
 pub returns-then-nibbles-count-ne0-clause-text : goal.returns-then-nibbles-count-ne0-clause-text
 returns-then-nibbles-count-ne0-clause-text c =

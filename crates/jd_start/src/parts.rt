@@ -1,9 +1,6 @@
 //! The parts of a start, which may be observed and fixed.
-ghost use Rattle.std.specs.Prelude.{◌≡◌, ◌<◌, ◌^◌, true, false, replicate, None, Some, option_map, slice_index_or, slice_set, nat_lt};
+ghost use Rattle.std.specs.Prelude.{◌≡◌, option_map, length};
 ghost use Rattle.hp_model.specs.Rows.{bit_number};
-ghost use Rattle.jd_model.specs.Problems.{part_limit};
-ghost use Rattle.jd_model.specs.ProblemLines.{part_named};
-ghost use Rattle.jd_problem.specs.Parts.{place_of, marks_of, values_of};
 
 use hp_words::WordSize;
 
@@ -41,6 +38,7 @@ pub struct Parts {
     pub i: bool,
     pub flags: [bool; 6],
     pub memory: bool,
+    pub ghost six_flags: { length flags ≡ 6 },
 }
 
 /// The parts that have one value in all starts, each with it. The register nibbles can be fixed at
@@ -55,9 +53,15 @@ pub struct Fixed {
     pub i: Option<u64>,
     pub flags: [Option<bool>; 6],
     pub memory: bool,
+    pub ghost six_flags: { length flags ≡ 6 },
 }
 
 impl Part {
+    ghost use Rattle.std.specs.Prelude.{◌≡◌, option_map, nat_lt};
+    ghost use Rattle.jd_model.specs.Problems.{part_limit};
+    ghost use Rattle.jd_model.specs.ProblemLines.{part_named};
+    ghost use Rattle.jd_start.specs.Parts.{place_of};
+
     /// The part with a name.
     pub fn named(word: &[u8]) -> Option<Part>
         ensures { option_map place_of result ≡ part_named word.now }
@@ -93,6 +97,9 @@ impl Part {
 }
 
 impl Parts {
+    ghost use Rattle.std.specs.Prelude.{◌≡◌, true, false, replicate, slice_index_or, slice_set};
+    ghost use Rattle.jd_start.specs.Parts.{place_of, marks_of};
+
     /// No part.
     pub fn none() -> Parts
         ensures { marks_of result ≡ replicate 13 false }
@@ -163,6 +170,10 @@ fn number_of_flag(flag: Option<bool>) -> Option<u64>
 }
 
 impl Fixed {
+    ghost use Rattle.std.specs.Prelude.{◌≡◌, ◌<◌, replicate, slice_index_or, slice_set, None, Some};
+    ghost use Rattle.jd_model.specs.Problems.{part_limit};
+    ghost use Rattle.jd_start.specs.Parts.{place_of, values_of};
+
     /// No part.
     pub fn none() -> Fixed
         ensures { values_of result ≡ replicate 13 None }

@@ -3,7 +3,7 @@ ghost use Rattle.std.specs.Prelude.{◌≡◌, ◌+◌, ◌<◌, ◌≤◌, ◌+
 ghost use Rattle.std.specs.Fmt.{digit_glyph};
 ghost use Rattle.arrayvec.specs.ArrayString.{array_string_len};
 ghost use Rattle.jd_model.specs.StartTexts.{after_m, nibbles_text};
-ghost use Rattle.jd_problem.specs.Written.{spaced};
+ghost use Rattle.jd_start.specs.Written.{spaced};
 
 use crate::nibbles::Nibbles;
 use arrayvec::ArrayString;

@@ -1,7 +1,7 @@
 use Rattle.std.proofs.Common.{◌≡◌, ◌+◌, ◌++◌, map, take, true}
 use Rattle.std.specs.Fmt.{digit_glyph}
 use Rattle.arrayvec.specs.ArrayString.{array_string_len}
-use Rattle.jd_problem.proofs.nibble_writer.push_digits.Given as goal
+use Rattle.jd_start.proofs.nibble_writer.push_digits.Given as goal
 
 abbrev pub invariant-loop-digit : goal.invariant-loop-digit
 invariant-loop-digit g l = record {

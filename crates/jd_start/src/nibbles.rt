@@ -1,6 +1,6 @@
 //! Lists of nibbles.
 ghost use Rattle.std.specs.Prelude.{◌≡◌, ◌<◌, [], ◌∷◌, ◌++◌, length};
-ghost use Rattle.jd_problem.specs.Nibbles.{AreNibbles};
+ghost use Rattle.jd_start.specs.Nibbles.{AreNibbles};
 
 use arrayvec::ArrayVec;
 use std::marker::Model;
@@ -13,7 +13,7 @@ pub struct Nibbles {
 
 impl Model for Nibbles {
     ghost use Rattle.std.specs.Prelude.{List, ℕ};
-    ghost use Rattle.jd_problem.specs.Nibbles.{AreNibbles};
+    ghost use Rattle.jd_start.specs.Nibbles.{AreNibbles};
 
     ghost Value = { List ℕ };
 

@@ -1,6 +1,6 @@
 -- A start as the definitions see it.
 use Rattle.hp_model.specs.State.{Data}
-use Rattle.jd_problem.specs.declared.start.Start.{Start}
+use Rattle.jd_start.specs.declared.start.Start.{Start}
 
 abbrev pub start_data : Start → Data
 start_data s = record {

@@ -1,6 +1,6 @@
 use Rattle.std.proofs.Common.{◌≡◌, ◌≤◌, length, take}
 use Rattle.jd_model.specs.StartTexts.{nibbles_text}
-use Rattle.jd_problem.proofs.nibble_writer.count_written.Given as goal
+use Rattle.jd_start.proofs.nibble_writer.count_written.Given as goal
 
 -- the nibbles that are left give the same text
 abbrev pub invariant-loop-count : goal.invariant-loop-count

@@ -1,10 +1,10 @@
 -- The parts of a start by their numbers.
 use Rattle.std.specs.Prelude.{ℕ, Bool, if◌then◌else◌, List, [], ◌∷◌, ◌++◌, map, Option, Some, None, option_map}
 use Rattle.hp_model.specs.Rows.{bit_number}
-use Rattle.jd_problem.specs.declared.parts.Part.{Part}
-use Rattle.jd_problem.specs.declared.parts.Part.TheVariants.{X, Y, Z, T, L, I, F0, F1, F2, F3, C, G, M}
-use Rattle.jd_problem.specs.declared.parts.Parts.{Parts}
-use Rattle.jd_problem.specs.declared.parts.Fixed.{Fixed}
+use Rattle.jd_start.specs.declared.parts.Part.{Part}
+use Rattle.jd_start.specs.declared.parts.Part.TheVariants.{X, Y, Z, T, L, I, F0, F1, F2, F3, C, G, M}
+use Rattle.jd_start.specs.declared.parts.Parts.{Parts}
+use Rattle.jd_start.specs.declared.parts.Fixed.{Fixed}
 
 -- the number of a part
 abbrev pub place_of : Part → ℕ

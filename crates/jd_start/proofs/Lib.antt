@@ -1,0 +1,3 @@
+pub mod FlagLists
+pub mod NibbleTexts
+pub mod PartByPart

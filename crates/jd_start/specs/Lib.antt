@@ -1,0 +1,4 @@
+pub mod Nibbles
+pub mod Parts
+pub mod Starts
+pub mod Written
