@@ -9,7 +9,7 @@ use crate::fields::{are_in_fields, free_widths, numbers_in};
 use crate::problem_fields::{allows_nibbles, first_fields, free_nibble_bits, nibbles_in};
 use hp_asm::Routine;
 use hp_words::{Base, Mode, WordSize};
-use jd_start::{Bits, Fixed, Parts, Start, first_numbers, start_with};
+use jd_start::{Bits, Fixed, MOST_BITS, MOST_BLOCKS, Parts, Start, first_numbers, start_with};
 
 /// Whether two routines agree from each start: with how many bits, in which mode and base they run,
 /// for at most how many steps each, which parts of the outcome are observed, and which parts of a
@@ -41,7 +41,7 @@ pub struct Problem {
 /// The blocks of seven bytes that a routine takes.
 fn blocks_of(routine: &Routine) -> u8
     ensures value { result ≡ blocks_of (length routine.now) }
-    ensures bound { result ≤ 29 }
+    ensures bound { result ≤ MOST_BLOCKS }
     ensures routine { IsRoutine routine.now }
 {
     ((routine.codes().len() + 6) / 7) as u8
@@ -56,7 +56,7 @@ impl Problem {
     /// The blocks of seven bytes that belong to the program in both runs, which are those of the longer routine.
     pub fn blocks(&self) -> u8
         ensures value { result ≡ blocks (problem_of self.now) }
-        ensures bound { result ≤ 29 }
+        ensures bound { result ≤ MOST_BLOCKS }
         ensures ranges { IsProblem (problem_of self.now) }
     {
         blocks_of(&self.first).max(blocks_of(&self.second))
@@ -83,7 +83,7 @@ impl Problem {
     /// How many bits of a start are free.
     pub fn free_bits(&self) -> u32
         ensures value { result ≡ free_bits (problem_of self.now) }
-        ensures bound { result ≤ 2014 }
+        ensures bound { result ≤ MOST_BITS }
     {
         free_widths(&first_fields(self)) + free_nibble_bits(self)
     }

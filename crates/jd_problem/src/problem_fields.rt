@@ -1,5 +1,5 @@
 // The fields of a problem's starts.
-ghost use Rattle.std.specs.Prelude.{◌≡◌, ◌+◌, ◌≤◌, true, length, drop, replicate};
+ghost use Rattle.std.specs.Prelude.{◌≡◌, ◌+◌, ◌*◌, ◌≤◌, true, length, drop, replicate};
 ghost use Rattle.jd_model.specs.Problems.{IsProblem, field, nibble_count, is_fixed_below, are_in_fields, free_widths, numbers_in};
 ghost use Rattle.jd_start.specs.Parts.{place_of};
 ghost use Rattle.jd_problem.specs.Problems.{problem_of};
@@ -7,7 +7,7 @@ ghost use Rattle.jd_problem.specs.Fields.{first_fields, nibble_fields};
 
 use crate::fields::Field;
 use crate::problem::Problem;
-use jd_start::{FIRST_NUMBERS, Nibbles, Part};
+use jd_start::{FIRST_NUMBERS, MOST_NIBBLES, Nibbles, Part, register_nibbles};
 
 /// The field of a part's number.
 fn field(problem: &Problem, width: u8, part: Part) -> Field
@@ -50,16 +50,16 @@ pub fn nibble_field(problem: &Problem) -> Field
 /// How many register nibbles a start has.
 pub fn nibble_count(problem: &Problem) -> u16
     ensures value { result ≡ nibble_count (problem_of problem.now) }
-    ensures bound { result ≤ 406 }
+    ensures bound { result ≤ MOST_NIBBLES }
     ensures ranges { IsProblem (problem_of problem.now) }
 {
-    406 - 14 * u16::from(problem.blocks())
+    register_nibbles(problem.blocks())
 }
 
 /// How many bits of the nibbles are free.
 pub fn free_nibble_bits(problem: &Problem) -> u32
     ensures value { result ≡ free_widths (nibble_fields (problem_of problem.now)) }
-    ensures bound { result ≤ 1624 }
+    ensures bound { result ≤ 4 * MOST_NIBBLES }
 {
     u32::from(nibble_count(problem)) * u32::from(nibble_field(problem).free_width())
 }
@@ -88,7 +88,7 @@ pub fn allows_nibbles(problem: &Problem, nibbles: &[u8]) -> bool
 fn read_nibbles(field: &Field, count: u16, bits: &[bool], start: usize) -> Nibbles
     requires width { field.now.width ≡ 4 }
     requires fixed { is_fixed_below 16 field.now.fixed ≡ true }
-    requires count { count ≤ 406 }
+    requires count { count ≤ MOST_NIBBLES }
     requires bits { start + free_widths (replicate count field.now) ≤ length bits.now }
     ensures { result ≡ numbers_in (replicate count field.now) (drop start bits.now) }
 {

@@ -15,7 +15,7 @@ use crate::reading::Reading;
 use hp_asm::take_line;
 use hp_words::{Base, Mode, WordSize};
 use jd_model::{LineKind, ProblemCause};
-use jd_start::Part;
+use jd_start::{PART_COUNT, Part};
 use jd_text::next_word;
 
 /// The mode with a number.
@@ -49,7 +49,7 @@ fn base_of(n: u64) -> Base
 /// Sets the number of a line.
 fn set_number(problem: &mut Problem, kind: LineKind, n: u64)
     requires range { is_in_range kind n ≡ true }
-    requires unfixed { values_of problem.old.fixed ≡ replicate 13 None }
+    requires unfixed { values_of problem.old.fixed ≡ replicate PART_COUNT None }
     ensures set { problem_of problem.new ≡ with_said kind (number n) (problem_of problem.old) }
     ensures observed { problem.new.observed ≡ problem.old.observed }
     ensures fixed { problem.new.fixed ≡ problem.old.fixed }

@@ -19,7 +19,9 @@ use arrayvec::ArrayString;
 use hp_asm::{Routine, list};
 use hp_io::{Failed, Sink, write_whole};
 use hp_words::{Base, Mode};
-use jd_start::{Fixed, Parts, part_at, part_name, push_decimal_line, push_number, push_word};
+use jd_start::{
+    Fixed, PART_COUNT, Parts, part_at, part_name, push_decimal_line, push_number, push_word,
+};
 
 /// Room for the text of any problem.
 const ROOM: usize = 4224;
@@ -41,7 +43,7 @@ fn push_names(text: &mut ArrayString<ROOM>, parts: &Parts)
     ensures text { text.new.bytes ≡ text.old.bytes ++ spaced (chosen (marks_of parts.now) part_names) }
     ensures len { array_string_len text.new ≤ array_string_len text.old + 39 }
 {
-    for place in 0..13 {
+    for place in 0..PART_COUNT {
         push_name(text, parts.contains(part_at(place)), part_name(place));
     }
 }
@@ -77,7 +79,7 @@ fn push_fixed(text: &mut ArrayString<ROOM>, fixed: &Fixed)
     ensures text { text.new.bytes ≡ text.old.bytes ++ written (fix_lines part_names (values_of fixed.now)) }
     ensures len { array_string_len text.new ≤ array_string_len text.old + 312 }
 {
-    for place in 0..13 {
+    for place in 0..PART_COUNT {
         push_fix(text, part_name(place), fixed.value(part_at(place)));
     }
 }

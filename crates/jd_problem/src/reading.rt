@@ -1,6 +1,7 @@
 // A problem as far as it is read.
 ghost use Rattle.std.specs.Prelude.{◌≡◌, ◌<◌, ◌≤◌, false, None, replicate};
 ghost use Rattle.jd_start.specs.Parts.{marks_of, values_of};
+ghost use Rattle.jd_start.specs.declared.parts.TheConstants.{PART_COUNT};
 
 use crate::problem::Problem;
 use hp_asm::Routine;
@@ -14,8 +15,8 @@ pub struct Reading {
     pub given: u8,
     pub problem: Problem,
     pub ghost few: { given ≤ 11 },
-    pub ghost unobserved: { given < 8 → marks_of problem.observed ≡ replicate 13 false },
-    pub ghost unfixed: { given < 8 → values_of problem.fixed ≡ replicate 13 None },
+    pub ghost unobserved: { given < 8 → marks_of problem.observed ≡ replicate PART_COUNT false },
+    pub ghost unfixed: { given < 8 → values_of problem.fixed ≡ replicate PART_COUNT None },
 }
 
 impl Reading {

@@ -15,7 +15,7 @@ use crate::problem_fields::{are_nibbles_in, first_fields, nibble_count, nibble_f
 use crate::start_reading::StartReading;
 use jd_model::ProblemCause;
 use jd_numbers::{are_digits, digit_value, hexadecimal_number};
-use jd_start::Nibbles;
+use jd_start::{MOST_NIBBLES, Nibbles};
 use jd_text::next_word;
 
 /// The first word of a line by its number from 0. No line follows the last one.
@@ -93,7 +93,7 @@ fn flags_of(word: &[u8]) -> Option<[u64; 6]>
 /// The nibbles that hexadecimal digits are.
 fn nibbles_of(word: &[u8]) -> Nibbles
     requires digits { are_digits 16 word.now ≡ true }
-    requires room { length word.now ≤ 406 }
+    requires room { length word.now ≤ MOST_NIBBLES }
     ensures { result ≡ map digit_value word.now }
 {
     let mut nibbles = Nibbles::new();
@@ -105,7 +105,7 @@ fn nibbles_of(word: &[u8]) -> Nibbles
 
 /// Adds zeros at the end until there are so many nibbles.
 fn fill_up(nibbles: &mut Nibbles, count: u16)
-    requires { count ≤ 406 }
+    requires { count ≤ MOST_NIBBLES }
     ensures { nibbles.new ≡ filled_up count nibbles.old }
 {
     'zeros: while nibbles.as_slice().len() < usize::from(count) {

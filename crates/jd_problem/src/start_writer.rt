@@ -13,7 +13,7 @@ ghost use Rattle.jd_start.specs.Starts.{start_data};
 use crate::problem::Problem;
 use arrayvec::ArrayString;
 use hp_io::{Failed, Sink, write_whole};
-use jd_start::{Nibbles, Start, push_nibbles, push_number_line};
+use jd_start::{MOST_NIBBLES, Nibbles, Start, push_nibbles, push_number_line};
 
 /// The digit of a flag.
 fn flag_digit(flag: bool) -> char
@@ -47,9 +47,9 @@ fn push_flags_line(text: &mut ArrayString<1024>, flags: &[bool; 6])
 
 /// Adds the line of the register nibbles.
 fn push_memory_line(text: &mut ArrayString<1024>, nibbles: &Nibbles)
-    requires { array_string_len text.old + 409 ≤ 1024 }
+    requires { array_string_len text.old + MOST_NIBBLES + 3 ≤ 1024 }
     ensures text { text.new.bytes ≡ text.old.bytes ++ line (memory_words nibbles.now) }
-    ensures len { array_string_len text.new ≤ array_string_len text.old + 409 }
+    ensures len { array_string_len text.new ≤ array_string_len text.old + MOST_NIBBLES + 3 }
 {
     text.push('M');
     push_nibbles(text, nibbles);

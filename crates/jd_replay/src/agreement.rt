@@ -9,7 +9,7 @@ ghost use Rattle.jd_replay.specs.Seen.{seen_of};
 use crate::seen::Seen;
 use hp_model::End;
 use jd_problem::Problem;
-use jd_start::{Nibbles, Part, Parts, Start, first_numbers, part_at};
+use jd_start::{FIRST_NUMBERS, Nibbles, Part, Parts, Start, first_numbers, part_at};
 
 /// Whether two runs end in the same way, errors with the same number.
 fn same_end(first: End, second: End) -> bool
@@ -26,18 +26,27 @@ fn same_end(first: End, second: End) -> bool
 }
 
 /// Whether the numbers at a place are the same, if that part is observed.
-fn same_at(observed: &Parts, place: usize, first: &[u64; 12], second: &[u64; 12]) -> bool
-    requires { place < 12 }
+fn same_at(
+    observed: &Parts,
+    place: usize,
+    first: &[u64; FIRST_NUMBERS],
+    second: &[u64; FIRST_NUMBERS],
+) -> bool
+    requires { place < FIRST_NUMBERS }
     ensures { result ≡ same_at (marks_of observed.now) first.now second.now place }
 {
     !observed.contains(part_at(place)) || first[place] == second[place]
 }
 
 /// Whether the observed numbers are the same, from X to flag 5.
-fn same_numbers(observed: &Parts, first: &[u64; 12], second: &[u64; 12]) -> bool
+fn same_numbers(
+    observed: &Parts,
+    first: &[u64; FIRST_NUMBERS],
+    second: &[u64; FIRST_NUMBERS],
+) -> bool
     ensures { result ≡ same_numbers (marks_of observed.now) first.now second.now }
 {
-    for place in 0..12 {
+    for place in 0..FIRST_NUMBERS {
         if !same_at(observed, place, first, second) {
             return false;
         }

@@ -13,7 +13,7 @@ use hp_core::Machine;
 use hp_nibbles::Memory;
 use hp_run::{RunEnd, run};
 use jd_problem::{Content, Problem, Routine};
-use jd_start::{Nibbles, Start};
+use jd_start::{Nibbles, Start, register_nibbles};
 
 /// The same content once more.
 fn copied(content: &Content) -> Content
@@ -35,8 +35,7 @@ fn register_nibbles_of(memory: &Memory) -> Nibbles
     ensures { result ≡ memory.now.nibbles }
 {
     let mut nibbles = Nibbles::new();
-    let count = 406 - 14 * u16::from(memory.blocks());
-    for j in 0..count {
+    for j in 0..register_nibbles(memory.blocks()) {
         nibbles.push(memory.nibble(j));
     }
     nibbles

@@ -21,8 +21,8 @@ use hp_model::End;
 use jd_numbers::push_decimal;
 use jd_problem::Problem;
 use jd_start::{
-    Nibbles, Part, Parts, Start, first_numbers, part_at, part_name, push_nibbles, push_number,
-    push_word,
+    FIRST_NUMBERS, MOST_NIBBLES, Nibbles, Part, Parts, Start, first_numbers, part_at, part_name,
+    push_nibbles, push_number, push_word,
 };
 
 /// Adds the words of an end.
@@ -56,9 +56,9 @@ fn push_part(text: &mut ArrayString<1024>, shown: bool, name: &str, n: u64)
 
 /// Adds the words of the register nibbles, if they are shown.
 fn push_memory(text: &mut ArrayString<1024>, shown: bool, nibbles: &Nibbles)
-    requires { array_string_len text.old + 409 ≤ 1024 }
+    requires { array_string_len text.old + MOST_NIBBLES + 3 ≤ 1024 }
     ensures text { text.new.bytes ≡ text.old.bytes ++ phrases (if shown then memory_words nibbles.now ∷ [] else []) }
-    ensures len { array_string_len text.new ≤ array_string_len text.old + 409 }
+    ensures len { array_string_len text.new ≤ array_string_len text.old + MOST_NIBBLES + 3 }
 {
     if shown {
         push_word(text, "M");
@@ -73,7 +73,7 @@ fn push_parts(text: &mut ArrayString<1024>, observed: &Parts, start: &Start)
     ensures len { array_string_len text.new ≤ array_string_len text.old + 649 }
 {
     let numbers = first_numbers(start);
-    for place in 0..12 {
+    for place in 0..FIRST_NUMBERS {
         push_part(
             text,
             observed.contains(part_at(place)),

@@ -1,23 +1,36 @@
-//! Lists of bits.
+//! Bits: as numbers, and lists of them.
 ghost use Rattle.std.specs.Prelude.{◌≡◌, ◌<◌, ◌≤◌, [], ◌∷◌, ◌++◌, length};
+ghost use Rattle.hp_model.specs.Rows.{bit_number};
 
 use arrayvec::ArrayVec;
 use std::marker::Model;
 
-/// At most 2,014 bits, as many as can be free in a start. Contracts see the list.
+/// The bits that can be free in a start.
+pub const MOST_BITS: usize = 2014;
+
+/// A bit as a number.
+pub fn bit_number(bit: bool) -> u64
+    ensures value { result ≡ bit_number bit }
+    ensures bound { result ≤ 1 }
+{
+    u64::from(bit)
+}
+
+/// At most as many bits as can be free in a start. Contracts see the list.
 #[derive(Drop)]
 pub struct Bits {
-    bits: ArrayVec<bool, 2014>,
+    bits: ArrayVec<bool, MOST_BITS>,
 }
 
 impl Model for Bits {
     ghost use Rattle.std.specs.Prelude.{◌≤◌, List, Bool, length};
+    ghost use Rattle.jd_start.specs.declared.bits.TheConstants.{MOST_BITS};
 
     ghost Value = { List Bool };
 
     ghost view = { λ b. b.bits.items };
 
-    ghost invariant = { λ b. length b.bits.items ≤ 2014 };
+    ghost invariant = { λ b. length b.bits.items ≤ MOST_BITS };
 }
 
 impl Bits {
@@ -32,7 +45,7 @@ impl Bits {
 
     /// Adds a bit at the end.
     pub fn push(&mut self, bit: bool)
-        requires { length self.old < 2014 }
+        requires { length self.old < MOST_BITS }
         ensures { self.new ≡ self.old ++ bit ∷ [] }
     {
         self.bits.push(bit);
@@ -41,7 +54,7 @@ impl Bits {
     /// How many bits there are.
     pub fn len(&self) -> usize
         ensures value { result ≡ length self.now }
-        ensures bound { result ≤ 2014 }
+        ensures bound { result ≤ MOST_BITS }
     {
         self.bits.len()
     }
@@ -49,7 +62,7 @@ impl Bits {
     /// The bits in order.
     pub fn as_slice(&self) -> &[bool]
         ensures same { result.now ≡ self.now }
-        ensures few { length result.now ≤ 2014 }
+        ensures few { length result.now ≤ MOST_BITS }
     {
         self.bits.as_slice()
     }

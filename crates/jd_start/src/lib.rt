@@ -11,11 +11,11 @@ mod start;
 mod start_numbers;
 mod word_writer;
 
-pub use bits::Bits;
+pub use bits::{Bits, MOST_BITS, bit_number};
 pub use nibble_writer::push_nibbles;
-pub use nibbles::Nibbles;
+pub use nibbles::{MOST_BLOCKS, MOST_NIBBLES, Nibbles, register_nibbles};
 pub use part_table::{part_at, part_name};
-pub use parts::{Fixed, Part, Parts};
+pub use parts::{Fixed, PART_COUNT, Part, Parts};
 pub use start::Start;
-pub use start_numbers::{FIRST_NUMBERS, bit_number, first_numbers, start_with};
+pub use start_numbers::{FIRST_NUMBERS, first_numbers, start_with};
 pub use word_writer::{push_decimal_line, push_number, push_number_line, push_word};

@@ -5,7 +5,7 @@ ghost use Rattle.arrayvec.specs.ArrayString.{array_string_len};
 ghost use Rattle.jd_model.specs.StartTexts.{after_m, nibbles_text};
 ghost use Rattle.jd_start.specs.Written.{spaced};
 
-use crate::nibbles::Nibbles;
+use crate::nibbles::{MOST_NIBBLES, Nibbles};
 use arrayvec::ArrayString;
 use jd_numbers::push_digit;
 
@@ -38,9 +38,9 @@ fn push_digits<const CAP: usize>(text: &mut ArrayString<CAP>, digits: &[u8])
 
 /// Adds a blank and the digits of nibbles from nibble 0 upwards. Adds nothing where all are zero.
 pub fn push_nibbles<const CAP: usize>(text: &mut ArrayString<CAP>, nibbles: &Nibbles)
-    requires { array_string_len text.old + 407 ≤ CAP }
+    requires { array_string_len text.old + MOST_NIBBLES + 1 ≤ CAP }
     ensures text { text.new.bytes ≡ text.old.bytes ++ spaced (after_m (nibbles_text nibbles.now)) }
-    ensures len { array_string_len text.new ≤ array_string_len text.old + 407 }
+    ensures len { array_string_len text.new ≤ array_string_len text.old + MOST_NIBBLES + 1 }
 {
     let nibbles = nibbles.as_slice();
     let count = count_written(nibbles);

@@ -1,8 +1,11 @@
 //! The parts of a start, which may be observed and fixed.
-ghost use Rattle.std.specs.Prelude.{◌≡◌, option_map, length};
-ghost use Rattle.hp_model.specs.Rows.{bit_number};
+ghost use Rattle.std.specs.Prelude.{◌≡◌, length};
 
+use crate::bits::bit_number;
 use hp_words::WordSize;
+
+/// How many parts a start has.
+pub const PART_COUNT: usize = 13;
 
 /// The parts of a start in their order.
 #[derive(Clone, Copy, Debug, PartialEq, Eq)]
@@ -57,32 +60,10 @@ pub struct Fixed {
 }
 
 impl Part {
-    ghost use Rattle.std.specs.Prelude.{◌≡◌, option_map, nat_lt};
+    ghost use Rattle.std.specs.Prelude.{◌≡◌, nat_lt};
     ghost use Rattle.jd_model.specs.Problems.{part_limit};
-    ghost use Rattle.jd_model.specs.ProblemLines.{part_named};
     ghost use Rattle.jd_start.specs.Parts.{place_of};
 
-    /// The part with a name.
-    pub fn named(word: &[u8]) -> Option<Part>
-        ensures { option_map place_of result ≡ part_named word.now }
-    {
-        match word {
-            b"X" => Some(Part::X),
-            b"Y" => Some(Part::Y),
-            b"Z" => Some(Part::Z),
-            b"T" => Some(Part::T),
-            b"L" => Some(Part::L),
-            b"I" => Some(Part::I),
-            b"F0" => Some(Part::F0),
-            b"F1" => Some(Part::F1),
-            b"F2" => Some(Part::F2),
-            b"F3" => Some(Part::F3),
-            b"C" => Some(Part::C),
-            b"G" => Some(Part::G),
-            b"M" => Some(Part::M),
-            _ => None,
-        }
-    }
     /// Whether it may be fixed at a number, where words have this size.
     pub fn can_be_fixed_at(self, size: WordSize, value: u64) -> bool
         ensures { result ≡ nat_lt value (part_limit size.bits (place_of self)) }
@@ -102,7 +83,7 @@ impl Parts {
 
     /// No part.
     pub fn none() -> Parts
-        ensures { marks_of result ≡ replicate 13 false }
+        ensures { marks_of result ≡ replicate PART_COUNT false }
     {
         Parts {
             x: false,
@@ -159,16 +140,6 @@ impl Parts {
     }
 }
 
-/// A flag as a number.
-fn number_of_flag(flag: Option<bool>) -> Option<u64>
-    ensures { result ≡ option_map bit_number flag }
-{
-    match flag {
-        None => None,
-        Some(flag) => Some(u64::from(flag)),
-    }
-}
-
 impl Fixed {
     ghost use Rattle.std.specs.Prelude.{◌≡◌, ◌<◌, replicate, slice_index_or, slice_set, None, Some};
     ghost use Rattle.jd_model.specs.Problems.{part_limit};
@@ -176,7 +147,7 @@ impl Fixed {
 
     /// No part.
     pub fn none() -> Fixed
-        ensures { values_of result ≡ replicate 13 None }
+        ensures { values_of result ≡ replicate PART_COUNT None }
     {
         Fixed {
             x: None,
@@ -200,12 +171,12 @@ impl Fixed {
             Part::T => self.t,
             Part::L => self.l,
             Part::I => self.i,
-            Part::F0 => number_of_flag(self.flags[0]),
-            Part::F1 => number_of_flag(self.flags[1]),
-            Part::F2 => number_of_flag(self.flags[2]),
-            Part::F3 => number_of_flag(self.flags[3]),
-            Part::C => number_of_flag(self.flags[4]),
-            Part::G => number_of_flag(self.flags[5]),
+            Part::F0 => self.flags[0].map(bit_number),
+            Part::F1 => self.flags[1].map(bit_number),
+            Part::F2 => self.flags[2].map(bit_number),
+            Part::F3 => self.flags[3].map(bit_number),
+            Part::C => self.flags[4].map(bit_number),
+            Part::G => self.flags[5].map(bit_number),
             Part::M => if self.memory { Some(0) } else { None },
         }
     }

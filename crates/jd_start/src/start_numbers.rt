@@ -1,23 +1,15 @@
 // A start as a list of numbers.
-ghost use Rattle.std.specs.Prelude.{◌≡◌, ◌≤◌, ◌++◌, length};
-ghost use Rattle.hp_model.specs.Rows.{bit_number};
+ghost use Rattle.std.specs.Prelude.{◌≡◌, ◌++◌, length};
 ghost use Rattle.jd_model.specs.Problems.{first_numbers, start_with};
 ghost use Rattle.jd_start.specs.Starts.{start_data};
 
+use crate::bits::bit_number;
 use crate::nibbles::Nibbles;
 use crate::start::Start;
 use hp_words::Content;
 
 /// How many numbers a start has but for the nibbles.
 pub const FIRST_NUMBERS: usize = 12;
-
-/// A bit as a number.
-pub fn bit_number(bit: bool) -> u64
-    ensures value { result ≡ bit_number bit }
-    ensures bound { result ≤ 1 }
-{
-    u64::from(bit)
-}
 
 /// The numbers of a start but for the nibbles: the stack, LAST X, the index register and the flags.
 pub fn first_numbers(start: &Start) -> [u64; FIRST_NUMBERS]
