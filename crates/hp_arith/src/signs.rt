@@ -1,6 +1,6 @@
 // Change of sign, and absolute values.
 ghost use Rattle.std.specs.Prelude.{◌≡◌, ◌^◌, ◌<◌, neg_ℤ};
-ghost use Rattle.hp_model.specs.Words.{value, magnitude as magnitude_of};
+ghost use Rattle.hp_model.specs.Words.{value};
 ghost use Rattle.hp_model.specs.Rows.{ranged as ranged_of, negation_of, negation_pattern as negation_pattern_of, absolute_of};
 
 use hp_words::{Answer, Mode, Word, WordSize, fits, low};
@@ -14,13 +14,6 @@ pub(crate) fn ranged(size: WordSize, mode: Mode, v: i128) -> Answer
         carry: None,
         range: Some(!fits(size, mode, v)),
     }
-}
-
-// The absolute value of a word.
-pub(crate) fn magnitude(x: Word) -> u64
-    ensures { result ≡ magnitude_of x.size.bits x.mode x.pattern }
-{
-    x.value().unsigned_abs() as u64
 }
 
 // The pattern of a change of sign.
@@ -57,5 +50,5 @@ pub fn chs(x: Word) -> Answer
 pub fn abs(x: Word) -> Answer
     ensures { result ≡ absolute_of x.size.bits x.mode x.pattern }
 {
-    ranged(x.size, x.mode, magnitude(x) as i128)
+    ranged(x.size, x.mode, x.magnitude() as i128)
 }

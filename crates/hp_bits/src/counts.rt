@@ -10,18 +10,27 @@ use thiserror::Error;
 #[error("Error 2")]
 pub struct Error2;
 
+/// The magnitude of a word, which is to be at most so much.
+fn magnitude_within(x: Word, most: u8) -> Result<u8, Error2>
+    ensures refused { IsErr result ↔ (most < magnitude x.size.bits x.mode x.pattern) }
+    ensures value { IfOk result (λ n. n ≡ magnitude x.size.bits x.mode x.pattern) }
+    ensures bound { IfOk result (λ n. n ≤ most) }
+{
+    let magnitude = x.magnitude();
+    if magnitude > most as u64 {
+        Err(Error2)
+    } else {
+        Ok(magnitude as u8)
+    }
+}
+
 /// The magnitude of a word, which is to be at most its size.
 pub fn count_in(x: Word) -> Result<u8, Error2>
     ensures refused { IsErr result ↔ (x.size.bits < magnitude x.size.bits x.mode x.pattern) }
     ensures value { IfOk result (λ n. n ≡ magnitude x.size.bits x.mode x.pattern) }
     ensures bound { IfOk result (λ n. n ≤ x.size.bits) }
 {
-    let magnitude = x.value().unsigned_abs();
-    if magnitude > x.size.bits as u128 {
-        Err(Error2)
-    } else {
-        Ok(magnitude as u8)
-    }
+    magnitude_within(x, x.size.bits)
 }
 
 /// The magnitude of a word, which is to be the number of one of its bits.
@@ -30,10 +39,5 @@ pub fn bit_in(x: Word) -> Result<u8, Error2>
     ensures value { IfOk result (λ n. n ≡ magnitude x.size.bits x.mode x.pattern) }
     ensures bound { IfOk result (λ n. n < x.size.bits) }
 {
-    let magnitude = x.value().unsigned_abs();
-    if magnitude >= x.size.bits as u128 {
-        Err(Error2)
-    } else {
-        Ok(magnitude as u8)
-    }
+    magnitude_within(x, x.size.bits - 1)
 }

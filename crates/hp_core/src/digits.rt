@@ -1,6 +1,5 @@
 // Digit entry.
-ghost use Rattle.std.specs.Prelude.{◌≡◌, ◌^◌, ◌<◌, ◌≤◌};
-ghost use Rattle.hp_model.specs.State.{radix as radix_of};
+ghost use Rattle.std.specs.Prelude.{◌≡◌, ◌^◌, ◌<◌};
 ghost use Rattle.hp_model.specs.Operations as ops;
 ghost use Rattle.hp_model.specs.ControlStep.{greatest_entry as greatest_entry_of, longer_entry as longer_entry_of};
 ghost use Rattle.hp_core.specs.Machines.{Steps, control_of};
@@ -9,21 +8,7 @@ use crate::machine::Machine;
 use crate::moves::push;
 use hp_model::Stop;
 use hp_ops::HexDigit;
-use hp_words::{Base, Mode};
-
-/// The base as a number.
-pub fn radix(base: Base) -> u64
-    ensures value { result ≡ radix_of base }
-    ensures least { 2 ≤ result }
-    ensures greatest { result ≤ 16 }
-{
-    match base {
-        Base::Hex => 16,
-        Base::Dec => 10,
-        Base::Oct => 8,
-        Base::Bin => 2,
-    }
-}
+use hp_words::{Base, Mode, radix};
 
 /// The greatest number that can be entered.
 fn greatest_entry(machine: &Machine) -> u64

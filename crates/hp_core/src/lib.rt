@@ -28,7 +28,6 @@ mod windows;
 mod words;
 
 pub use calls::Calls;
-pub use digits::radix;
 pub use hp_model::{End, Stop};
 pub use machine::{Control, Machine};
 pub use search::find_label;

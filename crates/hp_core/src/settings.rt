@@ -6,7 +6,7 @@ ghost use Rattle.hp_core.specs.Machines.{Steps};
 
 use crate::machine::Machine;
 use crate::moves::{drop, fail, finish, finish_as_it_was};
-use crate::words::{magnitude, masked};
+use crate::words::{masked, x_word};
 use hp_model::Stop;
 use hp_ops::Setting;
 use hp_words::{Base, Content, Mode, WordSize};
@@ -56,7 +56,7 @@ fn size_named(bits: u64) -> WordSize
 fn step_size(machine: &mut Machine) -> Stop
     ensures { Steps machine.old machine.new result ops.set_size }
 {
-    let bits = magnitude(machine);
+    let bits = x_word(machine).magnitude();
     if bits > 64 {
         return fail(&mut machine.control, 2);
     }

@@ -1,6 +1,5 @@
 // Words of the machine's size and mode.
-ghost use Rattle.std.specs.Prelude.{◌≡◌, ◌%◌, ◌^◌, ◌<◌, ◌≤◌};
-ghost use Rattle.hp_model.specs.Words.{magnitude as magnitude_of};
+ghost use Rattle.std.specs.Prelude.{◌≡◌, ◌%◌, ◌^◌, ◌<◌};
 
 use crate::machine::Machine;
 use hp_words::{Word, WordSize};
@@ -69,11 +68,4 @@ pub fn one(machine: &Machine) -> Word
     ensures pattern { result.pattern ≡ 1 }
 {
     Word::new(machine.control.size, machine.control.mode, 1)
-}
-
-/// The absolute value of X.
-pub fn magnitude(machine: &Machine) -> u64
-    ensures { result ≡ magnitude_of machine.now.control.size.bits machine.now.control.mode machine.now.content.x }
-{
-    x_word(machine).value().unsigned_abs() as u64
 }

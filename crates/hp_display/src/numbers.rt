@@ -1,7 +1,6 @@
 // The number part of the display.
 ghost use Rattle.std.specs.Prelude.{◌≡◌, ℕ, ◌+◌, ◌-◌, ◌*◌, ◌/◌, ◌%◌, ◌^◌, ◌<◌, ◌≤◌, ◌++◌, length, true, codes, [], ◌∷◌};
 ghost use Rattle.hp_model.specs.State.{radix};
-ghost use Rattle.hp_model.specs.Words.{magnitude as magnitude_of};
 ghost use Rattle.hp_model.specs.Display.{number_text, has_minus as has_minus_of, base_letter as letter_of, text_if, filled_to as filled_to_of, digits_for as digits_for_of, shown_number, places_text, has_digit};
 ghost use Rattle.hp_core.specs.Machines.{control_of, data_of};
 ghost use Rattle.arrayvec.specs.ArrayString.{array_string_len};
@@ -23,13 +22,6 @@ fn x_word(machine: &Machine) -> Word
         machine.control.mode,
         machine.content.x,
     )
-}
-
-/// The absolute value of X.
-fn magnitude(machine: &Machine) -> u64
-    ensures { result ≡ magnitude_of machine.now.control.size.bits machine.now.control.mode machine.now.content.x }
-{
-    x_word(machine).value().unsigned_abs() as u64
 }
 
 /// Whether a minus stands before the decimal digits.
@@ -106,7 +98,7 @@ fn push_window(text: &mut ArrayString<32>, machine: &Machine, base: Base, first:
         Base::Hex => push_places(text, x, 4, filled, first as u32),
         Base::Oct => push_places(text, x, 3, filled, first as u32),
         Base::Bin => push_places(text, x, 1, filled, first as u32),
-        Base::Dec => push_decimal_places(text, magnitude(machine), first as usize),
+        Base::Dec => push_decimal_places(text, x_word(machine).magnitude(), first as usize),
     }
 }
 

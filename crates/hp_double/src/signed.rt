@@ -20,10 +20,9 @@ impl Signed {
         ensures bound { result.magnitude < 2 ^ x.size.bits }
         ensures small { result.magnitude < 2 ^ 64 }
     {
-        let value = x.value();
         Signed {
-            negative: value < 0,
-            magnitude: value.unsigned_abs(),
+            negative: x.value() < 0,
+            magnitude: x.magnitude() as u128,
         }
     }
 

@@ -5,9 +5,10 @@ ghost use Rattle.hp_model.specs.Run.{at_control_line};
 ghost use Rattle.hp_core.specs.Machines.{control_of, machine_of, KeepsLines};
 ghost use Rattle.hp_run.specs.Calculators.{shown_of};
 
-use hp_core::{Calls, Machine, radix};
+use hp_core::{Calls, Machine};
 use hp_edit::{before, goto_line, next};
 use hp_keys::View;
+use hp_words::radix;
 
 /// Ends digit entry, and shows a view.
 pub fn show(machine: &mut Machine, view: View) -> View

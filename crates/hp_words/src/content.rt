@@ -2,7 +2,7 @@
 
 /// The stack X, Y, Z and T, LAST X, the index register of 64 bits, and the flags 0 to 5, of which 4 is
 /// the carry and 5 is out of range.
-#[derive(Drop)]
+#[derive(Clone, Copy, Debug, PartialEq, Eq)]
 pub struct Content {
     pub x: u64,
     pub y: u64,

@@ -1,6 +1,6 @@
 // Words, and numbers as patterns.
 ghost use Rattle.std.specs.Prelude.{◌≡◌, ◌-◌, ◌^◌, ◌<◌, ◌≤◌, nat_abs};
-ghost use Rattle.hp_model.specs.Words.{value, low as low_of, fits as fits_in};
+ghost use Rattle.hp_model.specs.Words.{value, magnitude, low as low_of, fits as fits_in};
 
 use crate::size::WordSize;
 use hp_model::Mode;
@@ -58,6 +58,14 @@ impl Word {
                 }
             }
         }
+    }
+
+    /// The absolute value of the number.
+    pub fn magnitude(self) -> u64
+        ensures value { result ≡ magnitude self.size.bits self.mode self.pattern }
+        ensures bound { result < 2 ^ self.size.bits }
+    {
+        self.value().unsigned_abs() as u64
     }
 }
 

@@ -18,7 +18,7 @@ use crate::problem::Problem;
 use arrayvec::ArrayString;
 use hp_asm::{Routine, list};
 use hp_io::{Failed, Sink, write_whole};
-use hp_words::{Base, Mode};
+use hp_words::{Mode, radix};
 use jd_start::{
     Fixed, PART_COUNT, Parts, part_at, part_name, push_decimal_line, push_number, push_word,
 };
@@ -102,18 +102,6 @@ fn mode_number(mode: Mode) -> u64
         Mode::Unsigned => 0,
         Mode::Ones => 1,
         Mode::Twos => 2,
-    }
-}
-
-/// The number of a base.
-fn radix(base: Base) -> u64
-    ensures { result ≡ radix base }
-{
-    match base {
-        Base::Hex => 16,
-        Base::Dec => 10,
-        Base::Oct => 8,
-        Base::Bin => 2,
     }
 }
 

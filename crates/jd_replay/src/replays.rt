@@ -12,23 +12,8 @@ use crate::seen::Seen;
 use hp_core::Machine;
 use hp_nibbles::Memory;
 use hp_run::{RunEnd, run};
-use jd_problem::{Content, Problem, Routine};
+use jd_problem::{Problem, Routine};
 use jd_start::{Nibbles, Start, register_nibbles};
-
-/// The same content once more.
-fn copied(content: &Content) -> Content
-    ensures { result ≡ content.now }
-{
-    Content {
-        x: content.x,
-        y: content.y,
-        z: content.z,
-        t: content.t,
-        l: content.l,
-        i: content.i,
-        flags: content.flags,
-    }
-}
 
 /// The register nibbles of a memory.
 fn register_nibbles_of(memory: &Memory) -> Nibbles
@@ -46,7 +31,7 @@ fn state_of(machine: &Machine) -> Start
     ensures { start_data result ≡ data_of machine.now }
 {
     Start {
-        content: copied(&machine.content),
+        content: machine.content,
         nibbles: register_nibbles_of(&machine.memory),
     }
 }
@@ -58,8 +43,13 @@ fn seen_of_routine(problem: &Problem, routine: &Routine, start: &Start) -> Seen
     ensures { seen_of result ≡ seen (problem_of problem.now) routine.now (start_data start.now) }
 {
     let memory = Memory::with(routine.codes(), problem.blocks(), start.nibbles.as_slice());
-    let content = copied(&start.content);
-    let mut machine = Machine::begin(problem.size, problem.mode, problem.base, memory, content);
+    let mut machine = Machine::begin(
+        problem.size,
+        problem.mode,
+        problem.base,
+        memory,
+        start.content,
+    );
     match run(&mut machine, u32::from(problem.steps)) {
         RunEnd::Late => Seen::Late,
         RunEnd::Ended(end) => Seen::Ended(end, state_of(&machine)),

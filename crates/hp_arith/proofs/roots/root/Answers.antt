@@ -9,4 +9,4 @@ answer_of n r = record { pattern = r; carry = Some (nat_lt (r * r) n); range = S
 
 pub returns-clause-ok : goal.returns-clause-ok
 unfolding answer_of
-returns-clause-ok c = ap (answer_of c.magnitude-square.result) c.whole_root-root.ensures.value ∙ ap (λ m. answer_of m (root m)) c.magnitude-square.ensures
+returns-clause-ok c = ap (answer_of c.magnitude-square.result) c.whole_root-root.ensures.value ∙ ap (λ m. answer_of m (root m)) c.magnitude-square.ensures.value

@@ -1,4 +1,4 @@
-use Rattle.std.proofs.Common.{◌≡◌, ◌∙◌, ap, slice_index}
+use Rattle.std.proofs.Common.{◌∙◌, ap, slice_index}
 use Rattle.hp_model.specs.Press.{Calculator}
 use Rattle.hp_model.proofs.KeptByKeys.{pressed_all-nibble}
 use Rattle.hp_run.specs.Seen.{calculator_of}

@@ -1,4 +1,4 @@
-use Rattle.std.proofs.Common.{refl, ◌≡◌, ap, sym, ◌∙◌}
+use Rattle.std.proofs.Common.{refl, ap, sym, ◌∙◌}
 use Rattle.hp_model.proofs.Runs.{run-left, run-over}
 use Rattle.hp_model.specs.Run.{Step}
 use Rattle.hp_run.proofs.runs.run.Goals as goal

@@ -1,4 +1,4 @@
-use Rattle.std.proofs.Common.{◌≡◌, ℕ, ◌-◌, ◌≤◌}
+use Rattle.std.proofs.Common.{◌≡◌, ◌-◌, ◌≤◌}
 use Rattle.hp_model.specs.Run.{run as run_of}
 use Rattle.hp_core.specs.Machines.{machine_of, KeepsLines}
 use Rattle.hp_run.proofs.runs.run.Given as goal

@@ -1,4 +1,4 @@
-use Rattle.std.proofs.Common.{◌≡◌, ap, ◌∙◌}
+use Rattle.std.proofs.Common.{ap, ◌∙◌}
 use Rattle.hp_model.specs.Press.{lines_per_key, shown_run}
 use Rattle.hp_run.proofs.runs.run_on.Goals as goal
 

@@ -17,7 +17,7 @@ returns-clause-text c =
       c.from-4.ensures,
       c.from-3.ensures,
       c.from-2.ensures,
-      c.radix.ensures,
+      c.radix.ensures.value,
       c.mode_number.ensures,
       c.from.ensures,
     )
