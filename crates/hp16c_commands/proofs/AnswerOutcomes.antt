@@ -1,17 +1,15 @@
 -- What holds of each answer to a query.
-use Rattle.std.proofs.Common.{ℕ, List, Bool, true, false, refl}
-use Rattle.std.specs.Prelude.{Result, Ok, Err, ⊤}
-use Rattle.hp_model.specs.State.{Data}
-use Rattle.jd_logic.specs.declared.answers.Verdict.{Verdict}
+use Rattle.std.proofs.Common.{◌≡◌, ◌≢◌, List, ℕ, Bool, true, false, refl, subst}
+use Rattle.std.specs.Prelude.{Ok, Err}
 use Rattle.jd_logic.specs.declared.answers.Verdict.TheVariants.{NotText, Refuted, NotRefuted, Bad}
 use Rattle.jd_logic.specs.Verdict.{verdict_of}
-use Rattle.jd_model.specs.declared.causes.AsmCause.{AsmCause}
 use Rattle.jd_model.specs.Assembly.{assembled, routine_of_codes}
-use Rattle.jd_model.specs.Problems.{Problem}
 use Rattle.jd_model.specs.Seen.{agree}
 use Rattle.jd_model.specs.Replays.{replay_input}
 use Rattle.hp16c_commands.specs.declared.outcomes.Kept.TheVariants.{Nothing}
-use Rattle.hp16c_commands.specs.declared.outcomes.Status.TheVariants.{Done, Different, BadInput, Limit}
+use Rattle.hp16c_commands.specs.declared.outcomes.Outcome.{Outcome}
+use Rattle.hp16c_commands.specs.declared.outcomes.Status.{Status}
+use Rattle.hp16c_commands.specs.declared.outcomes.Status.TheVariants.{Done, Different, BadInput, Limit, CertRefused}
 use Rattle.hp16c_commands.specs.declared.queries.Query.{Query}
 use Rattle.hp16c_commands.specs.declared.queries.Query.TheVariants as queries
 use Rattle.hp16c_commands.specs.Assemble.{coded}
@@ -20,91 +18,66 @@ use Rattle.hp16c_commands.specs.Lrat.{answer_of_verdict}
 use Rattle.hp16c_commands.specs.Replay.{status_of_agreement, replayed}
 use Rattle.hp16c_commands.specs.Queries.{answer_to, IsOutcomeOf}
 
-done : (query : Query) → IsOutcomeOf query (record { status = Done; kept = Nothing })
-done query = record {
-  no_usage = λ e. cc;
-  no_read_fault = λ e. cc;
-  no_write_fault = λ e. cc;
-  no_lack = λ e. cc;
-  difference = λ e. cc;
-  certificate = λ e. cc;
-  kept = λ _. refl;
+-- whether a status is one of an answer to the query
+abbrev is_of_answer : Status → Query → Bool
+is_of_answer Done query = true
+is_of_answer BadInput query = true
+is_of_answer Limit query = true
+is_of_answer Different queries.Replay = true
+is_of_answer CertRefused queries.Lrat = true
+is_of_answer status query = false
+
+apart : (query : Query) (status other : Status) → is_of_answer status query ≡ true → is_of_answer other query ≡ false → status ≢ other
+apart query status other is isnt same = let also = subst (λ s. is_of_answer s query ≡ true) same is in cc
+
+of_difference : (query : Query) → is_of_answer Different query ≡ true → query ≡ queries.Replay
+of_difference queries.Replay is = refl
+of_difference query is = cc
+
+of_certificate : (query : Query) → is_of_answer CertRefused query ≡ true → query ≡ queries.Lrat
+of_certificate queries.Lrat is = refl
+of_certificate query is = cc
+
+outcome-of : (query : Query) (outcome : Outcome) → is_of_answer outcome.status query ≡ true
+    → (outcome.status ≢ CertRefused → outcome.kept ≡ Nothing) → IsOutcomeOf query outcome
+outcome-of query outcome is kept = record {
+  no_usage = apart query outcome.status _ is refl;
+  no_read_fault = apart query outcome.status _ is refl;
+  no_write_fault = apart query outcome.status _ is refl;
+  no_lack = apart query outcome.status _ is refl;
+  difference = λ same. of_difference query (subst (λ s. is_of_answer s query ≡ true) same is);
+  certificate = λ same. of_certificate query (subst (λ s. is_of_answer s query ≡ true) same is);
+  kept = kept;
 }
 
-bad_input : (query : Query) → IsOutcomeOf query (record { status = BadInput; kept = Nothing })
-bad_input query = record {
-  no_usage = λ e. cc;
-  no_read_fault = λ e. cc;
-  no_write_fault = λ e. cc;
-  no_lack = λ e. cc;
-  difference = λ e. cc;
-  certificate = λ e. cc;
-  kept = λ _. refl;
-}
+-- an outcome with which nothing is kept
+plain-outcome : (query : Query) (status : Status) → is_of_answer status query ≡ true → IsOutcomeOf query (record { status = status; kept = Nothing })
+plain-outcome query status is = outcome-of query _ is (λ _. refl)
 
 -- where the input has too many bytes
 pub limit-outcome : (query : Query) → IsOutcomeOf query (record { status = Limit; kept = Nothing })
-limit-outcome query = record {
-  no_usage = λ e. cc;
-  no_read_fault = λ e. cc;
-  no_write_fault = λ e. cc;
-  no_lack = λ e. cc;
-  difference = λ e. cc;
-  certificate = λ e. cc;
-  kept = λ _. refl;
-}
+limit-outcome query = plain-outcome query Limit refl
 
-different : IsOutcomeOf queries.Replay (record { status = Different; kept = Nothing })
-different = record {
-  no_usage = λ e. cc;
-  no_read_fault = λ e. cc;
-  no_write_fault = λ e. cc;
-  no_lack = λ e. cc;
-  difference = λ _. refl;
-  certificate = λ e. cc;
-  kept = λ _. refl;
-}
-
-of_verdict : (verdict : Verdict) → IsOutcomeOf queries.Lrat (answer_of_verdict verdict).outcome
-of_verdict (NotText line) = bad_input queries.Lrat
-of_verdict Refuted = done queries.Lrat
-of_verdict NotRefuted = record {
-  no_usage = λ e. cc;
-  no_read_fault = λ e. cc;
-  no_write_fault = λ e. cc;
-  no_lack = λ e. cc;
-  difference = λ e. cc;
-  certificate = λ _. refl;
-  kept = λ _. refl;
-}
-of_verdict (Bad line cause) = record {
-  no_usage = λ e. cc;
-  no_read_fault = λ e. cc;
-  no_write_fault = λ e. cc;
-  no_lack = λ e. cc;
-  difference = λ e. cc;
-  certificate = λ _. refl;
-  kept = λ other. absurd (other refl);
-}
-
-of_codes : (routine : Result (List ℕ) (ℕ × AsmCause)) → IsOutcomeOf queries.Assemble (coded routine).outcome
-of_codes (Ok routine) = done queries.Assemble
-of_codes (Err fault) = bad_input queries.Assemble
-
-of_listing : (routine : Result (List ℕ) (ℕ × ⊤)) → IsOutcomeOf queries.List (listed routine).outcome
-of_listing (Ok routine) = done queries.List
-of_listing (Err fault) = bad_input queries.List
-
-of_agreement : (same : Bool) → IsOutcomeOf queries.Replay (record { status = status_of_agreement same; kept = Nothing })
-of_agreement true = done queries.Replay
-of_agreement false = different
-
-of_replay : (input : Result (Problem × Data) ℕ) → IsOutcomeOf queries.Replay (replayed input).outcome
-of_replay (Ok (p, s)) = of_agreement (agree p s)
-of_replay (Err line) = bad_input queries.Replay
+agreement-outcome : (same : Bool) → IsOutcomeOf queries.Replay (record { status = status_of_agreement same; kept = Nothing })
+agreement-outcome true = plain-outcome queries.Replay Done refl
+agreement-outcome false = plain-outcome queries.Replay Different refl
 
 pub answer-outcome : (query : Query) (bytes : List ℕ) → IsOutcomeOf query (answer_to query bytes).outcome
-answer-outcome queries.Lrat bytes = of_verdict (verdict_of bytes)
-answer-outcome queries.Assemble bytes = of_codes (assembled bytes)
-answer-outcome queries.List bytes = of_listing (routine_of_codes bytes)
-answer-outcome queries.Replay bytes = of_replay (replay_input bytes)
+answer-outcome queries.Lrat bytes = elim (verdict_of bytes) as (λ verdict. IsOutcomeOf queries.Lrat (answer_of_verdict verdict).outcome) [
+  | NotText line ↦ plain-outcome queries.Lrat BadInput refl
+  | Refuted ↦ plain-outcome queries.Lrat Done refl
+  | NotRefuted ↦ plain-outcome queries.Lrat CertRefused refl
+  | Bad line cause ↦ outcome-of queries.Lrat _ refl (λ other. absurd (other refl))
+]
+answer-outcome queries.Assemble bytes = elim (assembled bytes) as (λ read. IsOutcomeOf queries.Assemble (coded read).outcome) [
+  | Ok routine ↦ plain-outcome queries.Assemble Done refl
+  | Err fault ↦ plain-outcome queries.Assemble BadInput refl
+]
+answer-outcome queries.List bytes = elim (routine_of_codes bytes) as (λ read. IsOutcomeOf queries.List (listed read).outcome) [
+  | Ok routine ↦ plain-outcome queries.List Done refl
+  | Err fault ↦ plain-outcome queries.List BadInput refl
+]
+answer-outcome queries.Replay bytes = elim (replay_input bytes) as (λ input. IsOutcomeOf queries.Replay (replayed input).outcome) [
+  | Ok (p, s) ↦ agreement-outcome (agree p s)
+  | Err line ↦ plain-outcome queries.Replay BadInput refl
+]
