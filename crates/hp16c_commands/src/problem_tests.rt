@@ -1,4 +1,9 @@
 //! Worked problems and starts: that they read, are written and are refused as they should be.
+ghost use Rattle.std.specs.Prelude.{◌≡◌, true};
+ghost use Rattle.jd_model.specs.Problems.{allows};
+ghost use Rattle.jd_problem.specs.Problems.{problem_of};
+ghost use Rattle.jd_start.specs.Starts.{start_data};
+
 use hp_io::MemSink;
 use jd_problem::{
     AsmCause, Bits, Problem, ProblemCause, ProblemFault, Start, read_problem, read_start,
@@ -21,6 +26,13 @@ const TWO_FREE: &str =
 
 const A_START: &str = "start\nX 6\nY AB\nZ 0\nT 0\nL 0\nI 0\nflags 010010\nM\nend\n";
 
+// The same with lower-case digits, zeros that may be left out, and an empty line.
+const A_START_OTHERWISE: &str =
+    "start\nX 06\nY ab\nZ 0\nT 0\nL 0\n\nI 0\nflags 010010\nM 00\nend\n";
+
+// The same up to its nibbles.
+const BEFORE_NIBBLES: &str = "start\nX 6\nY AB\nZ 0\nT 0\nL 0\nI 0\nflags 010010\nM ";
+
 // The canonical text of a problem.
 fn problem_text(alloc: Global, problem: &Problem) -> Result<Vec<u8>, AllocError> {
     let mut sink = MemSink::new(vec![in alloc; 0; 5000]?, Vec::new(alloc));
@@ -28,15 +40,25 @@ fn problem_text(alloc: Global, problem: &Problem) -> Result<Vec<u8>, AllocError>
     Vec::from_slice(alloc, sink.written())
 }
 
+// The canonical text of a start.
+fn start_text(alloc: Global, problem: &Problem, start: &Start) -> Result<Vec<u8>, AllocError>
+    requires { allows (problem_of problem.now) (start_data start.now) ≡ true }
+{
+    let mut sink = MemSink::new(vec![in alloc; 0; 1000]?, Vec::new(alloc));
+    let _ = write_start(problem, start, &mut sink);
+    Vec::from_slice(alloc, sink.written())
+}
+
 #[test]
 fn problems_read_back(rt: HostRuntime) -> Result<(), Fail> {
     let alloc = rt.alloc();
-    for (text, canonical, bits) in [
-        (DOUBLING, DOUBLING, 1718),
-        (DOUBLING_OTHERWISE, DOUBLING, 1718),
-        (TWO_FREE, TWO_FREE, 9),
+    for (text, canonical, blocks, bits) in [
+        (DOUBLING, DOUBLING, 1, 1718),
+        (DOUBLING_OTHERWISE, DOUBLING, 1, 1718),
+        (TWO_FREE, TWO_FREE, 0, 9),
     ] {
         let (problem, _) = read_problem(text.as_bytes())?;
+        assert_eq!(rt; problem.blocks(), blocks);
         assert_eq!(rt; problem.free_bits(), bits);
         let written = problem_text(alloc, &problem.copy())?;
         assert_eq!(rt; written.as_slice(), canonical.as_bytes());
@@ -55,17 +77,20 @@ fn starts_have_their_bits(rt: HostRuntime) -> Result<(), Fail> {
         bits.push(bit);
     }
     assert_eq!(rt; problem.free_bits() as usize, bits.len());
-    let start: Start = problem.start_of(&bits);
-    let mut sink = MemSink::new(vec![in alloc; 0; 1000]?, Vec::new(alloc));
-    let _ = write_start(&problem, &start, &mut sink);
-    assert_eq!(rt; sink.written(), A_START.as_bytes());
-    let read = read_start(&problem, A_START.as_bytes())?;
-    assert!(rt; problem.allows(&read));
+    let start = start_text(alloc, &problem, &problem.start_of(&bits))?;
+    assert_eq!(rt; start.as_slice(), A_START.as_bytes());
+    for text in [A_START, A_START_OTHERWISE] {
+        let start = read_start(&problem, text.as_bytes())?;
+        assert!(rt; problem.allows(&start));
+        let written = start_text(alloc, &problem, &start)?;
+        assert_eq!(rt; written.as_slice(), A_START.as_bytes());
+    }
     Ok(())
 }
 
 #[test]
 fn the_first_bad_line_has_its_cause(rt: HostRuntime) -> Result<(), Fail> {
+    let alloc = rt.alloc();
     let problems = [
         ("", 1, ProblemCause::Missing),
         (
@@ -118,6 +143,18 @@ fn the_first_bad_line_has_its_cause(rt: HostRuntime) -> Result<(), Fail> {
     for (text, line, cause) in starts {
         assert_eq!(rt;
             read_start(&problem, text.as_bytes()).err(),
+            Some(ProblemFault { line, cause })
+        );
+    }
+    // As many nibbles as the runs have, before a line that is missing; and one too many.
+    for (count, line, cause) in [
+        (406, 10, ProblemCause::Missing),
+        (407, 9, ProblemCause::Range),
+    ] {
+        let mut text = Vec::from_slice(alloc, BEFORE_NIBBLES.as_bytes())?;
+        text.extend_from_slice(vec![in alloc; b'0'; count]?.as_slice())?;
+        assert_eq!(rt;
+            read_start(&problem, text.as_slice()).err(),
             Some(ProblemFault { line, cause })
         );
     }

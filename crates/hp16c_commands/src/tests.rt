@@ -1,6 +1,8 @@
 //! Worked key files, and what the statuses are where a stream fails.
 use crate::{Status, hp16c};
 use hp_io::{MemSink, MemSource, next_byte};
+use jd_problem::{read_problem, read_start};
+use jd_replay::{agree, replay, seen_text, write_seen};
 use std::alloc::{AllocError, Global};
 use std::test::Fail;
 
@@ -10,6 +12,15 @@ struct Answer {
     status: Status,
     text: Vec<u8>,
     next: Option<u8>,
+}
+
+// Texts one after the other.
+fn joined(alloc: Global, texts: &[&str]) -> Result<String, AllocError> {
+    let mut whole = String::new(alloc);
+    for text in texts {
+        whole.push_str(text)?;
+    }
+    Ok(whole)
 }
 
 // Does a command over streams in memory, whose reads and writes with these numbers fail; none has the
@@ -187,8 +198,7 @@ fn proofs_are_judged(rt: HostRuntime) -> Result<(), Fail> {
         ("c a comment\n5 2 0 1 2 0 7\n", 4, "bad line 7\n"),
     ];
     for (proof, number, text) in rows {
-        let mut input = String::from_str(alloc, FOUR_CLAUSES)?;
-        input.push_str(proof)?;
+        let input = joined(alloc, &[FOUR_CLAUSES, proof])?;
         let got = run(alloc, &["lrat"], input.as_bytes(), (0, 0))?;
         assert_eq!(rt; got.status.number(), number, "{proof}");
         assert_eq!(rt; got.text.as_slice(), text.as_bytes(), "{proof}");
@@ -224,17 +234,35 @@ fn routines_are_translated(rt: HostRuntime) -> Result<(), Fail> {
     Ok(())
 }
 
+// The lines of a problem before its first routine.
+const HEADERS: &str =
+    "problem 1\nword 8\nmode 0\nbase 16\nsteps 300\npaths 1\nbudget 1\nobserve X\nfirst\n";
+
+const START_AT_0: &str = "start\nX 0\nY 0\nZ 0\nT 0\nL 0\nI 0\nflags 000000\nM\nend\n";
+
 #[test]
 fn long_routines_are_refused(rt: HostRuntime) -> Result<(), Fail> {
     let alloc = rt.alloc();
-    for (count, number, bytes) in [(203, 0, 609), (204, 4, 13)] {
-        let mut text = String::from_str(alloc, "")?;
+    // How many lines; the status's number, how many bytes `asm` writes, and what `replay` writes.
+    let rows = [
+        (203, 0, 609, "first return X 0\nsecond return X 0\nagree\n"),
+        (204, 4, 13, "bad line 213\n"),
+    ];
+    for (count, number, bytes, seen) in rows {
+        let mut routine = String::new(alloc);
         for _ in 0..count {
-            text.push_str("+\n")?;
+            routine.push_str("+\n")?;
         }
-        let got = run(alloc, &["asm"], text.as_bytes(), (0, 0))?;
+        let got = run(alloc, &["asm"], routine.as_bytes(), (0, 0))?;
         assert_eq!(rt; got.status.number(), number);
         assert_eq!(rt; got.text.len(), bytes);
+        let input = joined(
+            alloc,
+            &[HEADERS, routine.as_str(), "second\nend\n", START_AT_0],
+        )?;
+        let got = run(alloc, &["replay"], input.as_bytes(), (0, 0))?;
+        assert_eq!(rt; got.status.number(), number);
+        assert_eq!(rt; got.text.as_slice(), seen.as_bytes());
     }
     for (count, number, text) in [(65_536, 0, ""), (65_537, 5, "limit\n")] {
         let blanks = vec![in alloc; b' '; count]?;
@@ -250,8 +278,9 @@ const DOUBLING: &str =
 
 const START_AT_8000: &str = "start\nX 8000\nY 0\nZ 0\nT 0\nL 0\nI 0\nflags 000000\nM\nend\n";
 
+// A routine without end against itself, from the one start that is allowed.
 const ENDLESS: &str =
-    "problem 1\nword 16\nmode 2\nbase 16\nsteps 1000\npaths 1\nbudget 16\nobserve X\nfix M 0\nfirst\nLBL 0\nGTO 0\nsecond\nLBL 0\nGTO 0\nend\n";
+    "problem 1\nword 16\nmode 2\nbase 16\nsteps 1000\npaths 1\nbudget 16\nobserve X\nfix X 0\nfix Y 0\nfix Z 0\nfix T 0\nfix L 0\nfix I 0\nfix F0 0\nfix F1 0\nfix F2 0\nfix F3 0\nfix C 0\nfix G 0\nfix M 0\nfirst\nLBL 0\nGTO 0\nsecond\nLBL 0\nGTO 0\nend\n";
 
 #[test]
 fn replays_tell_what_is_seen(rt: HostRuntime) -> Result<(), Fail> {
@@ -259,26 +288,26 @@ fn replays_tell_what_is_seen(rt: HostRuntime) -> Result<(), Fail> {
     // The pieces of the input, the read and the write that fail; the status's number, and the text.
     let rows = [
         (
-            ["problem 1\nword 16\nmode 1\n", DOUBLING, START_AT_8000],
+            ["problem 1\nword 16\nmode 1\n", DOUBLING, START_AT_8000].as_slice(),
             (0, 0),
             1,
             "first return X 0 C 1\nsecond return X 1 C 1\ndiffer\n",
         ),
         (
-            ["problem 1\nword 16\nmode 2\n", DOUBLING, START_AT_8000],
+            &["problem 1\nword 16\nmode 2\n", DOUBLING, START_AT_8000],
             (0, 0),
             0,
             "first return X 0 C 1\nsecond return X 0 C 1\nagree\n",
         ),
         (
-            ["", ENDLESS, START_AT_8000],
+            &["", ENDLESS, START_AT_0],
             (0, 0),
             1,
             "first late\nsecond late\ndiffer\n",
         ),
-        (["", "", ""], (0, 0), 4, "bad line 1\n"),
+        (&["", "", ""], (0, 0), 4, "bad line 1\n"),
         (
-            [
+            &[
                 "problem 1\nword 16\nmode 2\nword 16\n",
                 DOUBLING,
                 START_AT_8000,
@@ -288,30 +317,28 @@ fn replays_tell_what_is_seen(rt: HostRuntime) -> Result<(), Fail> {
             "bad line 4\n",
         ),
         (
-            ["problem 1\nword 16\n", DOUBLING, START_AT_8000],
+            &["problem 1\nword 16\n", DOUBLING, START_AT_8000],
             (0, 0),
             4,
             "bad line 3\n",
         ),
         (
-            ["problem 1\nword 16\nmode 1\n", DOUBLING, ""],
+            &["problem 1\nword 16\nmode 1\n", DOUBLING, ""],
             (0, 0),
             4,
             "bad line 15\n",
         ),
         (
-            ["problem 1\nword 15\nmode 1\n", DOUBLING, START_AT_8000],
+            &["problem 1\nword 15\nmode 1\n", DOUBLING, START_AT_8000],
             (0, 0),
             4,
             "bad line 16\n",
         ),
-        (["", ENDLESS, START_AT_8000], (1, 0), 6, ""),
-        (["", ENDLESS, START_AT_8000], (0, 1), 7, ""),
+        (&["", ENDLESS, START_AT_0], (1, 0), 6, ""),
+        (&["", ENDLESS, START_AT_0], (0, 1), 7, ""),
     ];
     for (pieces, fails, number, text) in rows {
-        let mut input = String::from_str(alloc, pieces[0])?;
-        input.push_str(pieces[1])?;
-        input.push_str(pieces[2])?;
+        let input = joined(alloc, pieces)?;
         let got = run(alloc, &["replay"], input.as_bytes(), fails)?;
         assert_eq!(rt; got.status.number(), number, "{text}");
         assert_eq!(rt; got.text.as_slice(), text.as_bytes(), "{text}");
@@ -322,5 +349,26 @@ fn replays_tell_what_is_seen(rt: HostRuntime) -> Result<(), Fail> {
         assert_eq!(rt; got.status.number(), number);
         assert_eq!(rt; got.text.as_slice(), text.as_bytes());
     }
+    Ok(())
+}
+
+#[test]
+fn runs_are_seen_one_by_one(rt: HostRuntime) -> Result<(), Fail> {
+    let alloc = rt.alloc();
+    let input = joined(
+        alloc,
+        &["problem 1\nword 16\nmode 1\n", DOUBLING, START_AT_8000],
+    )?;
+    let bytes = input.as_bytes();
+    assert!(rt; bytes.len() < 1000);
+    let (problem, count) = read_problem(bytes)?;
+    let start = read_start(&problem, &bytes[count..])?;
+    let (first, second) = replay(&problem, &start);
+    assert!(rt; agree(&problem, &first, &first));
+    assert!(rt; !agree(&problem, &first, &second));
+    assert_eq!(rt; seen_text(&problem, &second).as_str(), " return X 1 C 1\n");
+    let mut sink = MemSink::new(vec![in alloc; 0; 100]?, Vec::new(alloc));
+    let _ = write_seen(&problem, "first", &first, &mut sink);
+    assert_eq!(rt; sink.written(), b"first return X 0 C 1\n".as_slice());
     Ok(())
 }
