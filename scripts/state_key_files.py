@@ -1,5 +1,5 @@
 #!/usr/bin/env python3
-"""Writes the statements of the crate key_file_examples from the key files in crates/keys_trials/data.
+"""Writes the statements of the crate key_file_examples from the key files in crates/command_trials/data.
 
 Each case of operations.txt, programs.txt and teaching.txt is a key file with the display of each line. It becomes
 one field of a record in specs/, and the field's proof, by computation, in proofs/laws/.
@@ -9,7 +9,7 @@ usage: scripts/state_key_files.py     at the top of the repository; it replaces 
 import shutil
 from pathlib import Path
 
-DATA = Path("crates/keys_trials/data")
+DATA = Path("crates/command_trials/data")
 CRATE = Path("crates/key_file_examples")
 CASES_A_MODULE = 30
 
