@@ -17,8 +17,10 @@ fn whole_root(n: u64) -> u64
 /// The square root of x, cut to a whole number. The carry is set where the root isn't exact.
 pub fn root(x: Word) -> Result<Answer, Error0>
     ensures ok { IfOk result (λ a. a ≡ root_of x.size.bits x.mode x.pattern) }
-    ensures square { IfOk result (λ a. a.pattern * a.pattern ≤ magnitude x.size.bits x.mode x.pattern) }
-    ensures next { IfOk result (λ a. magnitude x.size.bits x.mode x.pattern < (a.pattern + 1) * (a.pattern + 1)) }
+    ensures square { IfOk result (λ a.
+        a.pattern * a.pattern ≤ magnitude x.size.bits x.mode x.pattern) }
+    ensures next { IfOk result (λ a.
+        magnitude x.size.bits x.mode x.pattern < (a.pattern + 1) * (a.pattern + 1)) }
     ensures refused { IsErr result ↔ (value x.size.bits x.mode x.pattern <ℤ pos 0) }
 {
     if x.value() < 0 {

@@ -11,7 +11,8 @@ use hp_model::{Answer, Stop};
 /// An answer of X.
 pub fn answer_x(machine: &mut Machine, answer: Answer) -> Stop
     requires { answer.pattern < 2 ^ machine.old.control.size.bits }
-    ensures control { control_of machine.new ≡ record (control_of machine.old) { entry = None; lift = true; window = 0 } }
+    ensures control { control_of machine.new
+        ≡ record (control_of machine.old) { entry = None; lift = true; window = 0 } }
     ensures contents { data_of machine.new ≡ of_x answer (data_of machine.old) }
     ensures stop { result ≡ Stop.Go }
 {
@@ -24,7 +25,8 @@ pub fn answer_x(machine: &mut Machine, answer: Answer) -> Stop
 /// An answer of Y and X, after which the stack drops.
 pub fn answer_two(machine: &mut Machine, answer: Answer) -> Stop
     requires { answer.pattern < 2 ^ machine.old.control.size.bits }
-    ensures control { control_of machine.new ≡ record (control_of machine.old) { entry = None; lift = true; window = 0 } }
+    ensures control { control_of machine.new
+        ≡ record (control_of machine.old) { entry = None; lift = true; window = 0 } }
     ensures contents { data_of machine.new ≡ of_two answer (data_of machine.old) }
     ensures stop { result ≡ Stop.Go }
 {
@@ -38,7 +40,8 @@ pub fn answer_two(machine: &mut Machine, answer: Answer) -> Stop
 /// An answer of Y, Z and X, after which the stack drops twice.
 pub fn answer_three(machine: &mut Machine, answer: Answer) -> Stop
     requires { answer.pattern < 2 ^ machine.old.control.size.bits }
-    ensures control { control_of machine.new ≡ record (control_of machine.old) { entry = None; lift = true; window = 0 } }
+    ensures control { control_of machine.new
+        ≡ record (control_of machine.old) { entry = None; lift = true; window = 0 } }
     ensures contents { data_of machine.new ≡ of_three answer (data_of machine.old) }
     ensures stop { result ≡ Stop.Go }
 {

@@ -9,7 +9,6 @@ ghost use Rattle.hp_core.specs.Machines.{Steps};
 use crate::answers::{answer_two, answer_x};
 use crate::machine::Machine;
 use crate::moves::{fail, finish, put};
-use crate::words::{x_word, y_word};
 use hp_arith::{abs, add, chs, div, mul, rmd, root, sub};
 use hp_model::{Answer, Stop};
 use hp_ops::Arithmetic;
@@ -19,7 +18,7 @@ use hp_words::{Error0, Word};
 fn step_divide(machine: &mut Machine) -> Stop
     ensures { Steps machine.old machine.new result ops.divide }
 {
-    match div(y_word(machine), x_word(machine)) {
+    match div(machine.y_word(), machine.x_word()) {
         Ok(answer) => answer_two(machine, answer),
         Err(_) => fail(&mut machine.control, 0),
     }
@@ -29,7 +28,7 @@ fn step_divide(machine: &mut Machine) -> Stop
 fn step_remainder(machine: &mut Machine) -> Stop
     ensures { Steps machine.old machine.new result ops.remainder }
 {
-    match rmd(y_word(machine), x_word(machine)) {
+    match rmd(machine.y_word(), machine.x_word()) {
         Ok(answer) => answer_two(machine, answer),
         Err(_) => fail(&mut machine.control, 0),
     }
@@ -51,7 +50,7 @@ fn real_root(x: Word) -> Result<Answer, Error0>
 fn step_square_root(machine: &mut Machine) -> Stop
     ensures { Steps machine.old machine.new result ops.square_root }
 {
-    let x = x_word(machine);
+    let x = machine.x_word();
     match real_root(x) {
         Ok(answer) => answer_x(machine, answer),
         Err(_) => fail(&mut machine.control, 0),
@@ -62,7 +61,7 @@ fn step_square_root(machine: &mut Machine) -> Stop
 fn step_change_sign(machine: &mut Machine) -> Stop
     ensures { Steps machine.old machine.new result ops.change_sign }
 {
-    let answer = chs(x_word(machine));
+    let answer = chs(machine.x_word());
     finish(&mut machine.control, true);
     put(&mut machine.content, answer);
     Stop::Go
@@ -72,8 +71,8 @@ fn step_change_sign(machine: &mut Machine) -> Stop
 pub fn step_arithmetic(machine: &mut Machine, op: Arithmetic) -> Stop
     ensures { Steps machine.old machine.new result (of_arithmetic op) }
 {
-    let x = x_word(machine);
-    let y = y_word(machine);
+    let x = machine.x_word();
+    let y = machine.y_word();
     match op {
         Arithmetic::Add => answer_two(machine, add(y, x)),
         Arithmetic::Subtract => answer_two(machine, sub(y, x)),

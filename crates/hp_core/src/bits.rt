@@ -8,7 +8,6 @@ use crate::answers::{answer_two, answer_x, plain};
 use crate::machine::Machine;
 use crate::moves::fail;
 use crate::skips::skip_if;
-use crate::words::{x_word, y_word};
 use hp_bits::{and, clear_bit, count_ones, mask_left, mask_right, not, or, set_bit, test_bit, xor};
 use hp_model::Stop;
 use hp_ops::{Bits, Logic};
@@ -17,7 +16,7 @@ use hp_ops::{Bits, Logic};
 fn step_mask_left(machine: &mut Machine) -> Stop
     ensures { Steps machine.old machine.new result ops.mask_left }
 {
-    match mask_left(x_word(machine)) {
+    match mask_left(machine.x_word()) {
         Ok(pattern) => answer_x(machine, plain(pattern)),
         Err(_) => fail(&mut machine.control, 2),
     }
@@ -27,7 +26,7 @@ fn step_mask_left(machine: &mut Machine) -> Stop
 fn step_mask_right(machine: &mut Machine) -> Stop
     ensures { Steps machine.old machine.new result ops.mask_right }
 {
-    match mask_right(x_word(machine)) {
+    match mask_right(machine.x_word()) {
         Ok(pattern) => answer_x(machine, plain(pattern)),
         Err(_) => fail(&mut machine.control, 2),
     }
@@ -37,7 +36,7 @@ fn step_mask_right(machine: &mut Machine) -> Stop
 fn step_set_bit(machine: &mut Machine) -> Stop
     ensures { Steps machine.old machine.new result ops.set_bit }
 {
-    match set_bit(y_word(machine), x_word(machine)) {
+    match set_bit(machine.y_word(), machine.x_word()) {
         Ok(pattern) => answer_two(machine, plain(pattern)),
         Err(_) => fail(&mut machine.control, 2),
     }
@@ -47,7 +46,7 @@ fn step_set_bit(machine: &mut Machine) -> Stop
 fn step_clear_bit(machine: &mut Machine) -> Stop
     ensures { Steps machine.old machine.new result ops.clear_bit }
 {
-    match clear_bit(y_word(machine), x_word(machine)) {
+    match clear_bit(machine.y_word(), machine.x_word()) {
         Ok(pattern) => answer_two(machine, plain(pattern)),
         Err(_) => fail(&mut machine.control, 2),
     }
@@ -58,7 +57,7 @@ fn step_clear_bit(machine: &mut Machine) -> Stop
 fn step_test_bit(machine: &mut Machine) -> Stop
     ensures { Steps machine.old machine.new result ops.test_bit }
 {
-    match test_bit(y_word(machine), x_word(machine)) {
+    match test_bit(machine.y_word(), machine.x_word()) {
         Ok(set) => {
             let y = machine.content.y;
             let stop = answer_two(machine, plain(y));
@@ -77,7 +76,7 @@ pub fn step_bits(machine: &mut Machine, op: Bits) -> Stop
         Bits::MaskLeft => step_mask_left(machine),
         Bits::MaskRight => step_mask_right(machine),
         Bits::CountOnes => {
-            let count = count_ones(x_word(machine));
+            let count = count_ones(machine.x_word());
             answer_x(machine, plain(count))
         }
         Bits::Set => step_set_bit(machine),
@@ -90,8 +89,8 @@ pub fn step_bits(machine: &mut Machine, op: Bits) -> Stop
 pub fn step_logic(machine: &mut Machine, op: Logic) -> Stop
     ensures { Steps machine.old machine.new result (of_logic op) }
 {
-    let x = x_word(machine);
-    let y = y_word(machine);
+    let x = machine.x_word();
+    let y = machine.y_word();
     match op {
         Logic::Not => answer_x(machine, plain(not(x))),
         Logic::And => answer_two(machine, plain(and(y, x))),

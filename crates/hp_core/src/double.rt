@@ -8,18 +8,19 @@ ghost use Rattle.hp_core.specs.Machines.{Steps};
 use crate::answers::answer_three;
 use crate::machine::Machine;
 use crate::moves::{fail, finish, save};
-use crate::words::{x_word, y_word, z_word};
 use hp_double::{dbl_div, dbl_mul, dbl_rmd};
 use hp_model::Stop;
 use hp_ops::Double;
 
 /// The product's upper and lower word.
 fn product(machine: &Machine) -> (u64, u64)
-    ensures value { result ≡ double_product machine.now.control.size.bits machine.now.control.mode machine.now.content.y machine.now.content.x }
+    ensures value { result ≡ double_product
+        machine.now.control.size.bits machine.now.control.mode
+        machine.now.content.y machine.now.content.x }
     ensures upper { result.0 < 2 ^ machine.now.control.size.bits }
     ensures lower { result.1 < 2 ^ machine.now.control.size.bits }
 {
-    dbl_mul(y_word(machine), x_word(machine))
+    dbl_mul(machine.y_word(), machine.x_word())
 }
 
 /// The product's upper word to X and its lower one to Y.
@@ -39,7 +40,7 @@ fn step_double_multiply(machine: &mut Machine) -> Stop
 fn step_double_divide(machine: &mut Machine) -> Stop
     ensures { Steps machine.old machine.new result ops.double_divide }
 {
-    match dbl_div(y_word(machine), z_word(machine), x_word(machine)) {
+    match dbl_div(machine.y_word(), machine.z_word(), machine.x_word()) {
         Ok(answer) => answer_three(machine, answer),
         Err(_) => fail(&mut machine.control, 0),
     }
@@ -49,7 +50,7 @@ fn step_double_divide(machine: &mut Machine) -> Stop
 fn step_double_remainder(machine: &mut Machine) -> Stop
     ensures { Steps machine.old machine.new result ops.double_remainder }
 {
-    match dbl_rmd(y_word(machine), z_word(machine), x_word(machine)) {
+    match dbl_rmd(machine.y_word(), machine.z_word(), machine.x_word()) {
         Ok(answer) => answer_three(machine, answer),
         Err(_) => fail(&mut machine.control, 0),
     }

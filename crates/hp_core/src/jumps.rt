@@ -16,7 +16,8 @@ use hp_ops::{HexDigit, Jump, Target};
 /// The line of a label, sought from the line number on. None where there is none, or where the index
 /// register names no label.
 fn target_line(machine: &Machine, target: Target) -> Option<u16>
-    ensures found { result ≡ target_line_of (control_of machine.now) (named target) (answers_to (label_questions (named target)) (control_of machine.now) (data_of machine.now)) }
+    ensures found { result ≡ target_line_of (control_of machine.now) (named target) (answers_to
+        (label_questions (named target)) (control_of machine.now) (data_of machine.now)) }
     ensures from_one { IfSome result (λ line. 1 ≤ line) }
     ensures bound { IfSome result (λ line. line ≤ length machine.now.memory.program) }
 {
@@ -70,9 +71,11 @@ fn step_gosub(machine: &mut Machine, target: Target) -> Stop
 
 /// Takes the last pending return.
 fn take_return(machine: &mut Machine) -> Option<u16>
-    ensures control { control_of machine.new ≡ record (control_of machine.old) { calls = drop 1 machine.old.control.calls } }
+    ensures control { control_of machine.new
+        ≡ record (control_of machine.old) { calls = drop 1 machine.old.control.calls } }
     ensures contents { data_of machine.new ≡ data_of machine.old }
-    ensures taken { MatchOption result (machine.old.control.calls ≡ []) (λ line. machine.old.control.calls ≡ line ∷ machine.new.control.calls) }
+    ensures taken { MatchOption result (machine.old.control.calls ≡ [])
+        (λ line. machine.old.control.calls ≡ line ∷ machine.new.control.calls) }
     ensures bound { IfSome result (λ line. line ≤ length machine.new.memory.program + 1) }
 {
     machine.control.calls.pop()

@@ -30,4 +30,3 @@ mod words;
 pub use calls::Calls;
 pub use hp_model::{End, Stop};
 pub use machine::{Control, Machine};
-pub use search::find_label;

@@ -6,7 +6,7 @@ ghost use Rattle.hp_core.specs.Machines.{Steps};
 use crate::machine::Machine;
 use crate::moves::finish_as_it_was;
 use crate::skips::skip_if;
-use crate::words::{index_word, one};
+use crate::words::one;
 use hp_model::Stop;
 use hp_ops::Loop;
 use hp_words::Word;
@@ -18,7 +18,7 @@ pub fn step_loop(machine: &mut Machine, op: Loop) -> Stop
 {
     let size = machine.control.size;
     let mode = machine.control.mode;
-    let index = index_word(machine);
+    let index = machine.index_word();
     let one = one(machine);
     let answer = match op {
         Loop::Decrement => hp_arith::sub(index, one),

@@ -76,7 +76,8 @@ pub fn save(content: &mut Content)
 
 /// X is the answer's pattern, and the flags are as it tells.
 pub fn put(content: &mut Content, answer: Answer)
-    ensures { content.new ≡ record content.old { x = answer.pattern; flags = flags_after answer content.old.flags } }
+    ensures { content.new
+        ≡ record content.old { x = answer.pattern; flags = flags_after answer content.old.flags } }
 {
     if let Some(carry) = answer.carry {
         content.flags[4] = carry;

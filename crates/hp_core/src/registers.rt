@@ -15,7 +15,8 @@ use hp_ops::{Place, Registers};
 
 /// The number of a register, and None from the count on.
 fn register_at(machine: &Machine, number: u64) -> Option<u16>
-    ensures { MatchOption result (register_count machine.now.control.size.bits machine.now.memory.blocks ≤ number) (λ r. (r ≡ number) × (r < register_count machine.now.control.size.bits machine.now.memory.blocks)) }
+    ensures { let count = register_count machine.now.control.size.bits machine.now.memory.blocks in
+        MatchOption result (count ≤ number) (λ r. (r ≡ number) × (r < count)) }
 {
     let count = machine.memory.count(machine.control.size);
     if number < count as u64 {
@@ -28,8 +29,12 @@ fn register_at(machine: &Machine, number: u64) -> Option<u16>
 /// X is stored in a register.
 fn store_at(machine: &mut Machine, r: u16)
     requires { r < register_count machine.old.control.size.bits machine.old.memory.blocks }
-    ensures control { control_of machine.new ≡ record (control_of machine.old) { entry = None; lift = true; window = 0 } }
-    ensures contents { data_of machine.new ≡ record (data_of machine.old) { nibbles = with_register machine.old.control.size.bits machine.old.memory.nibbles r machine.old.content.x } }
+    ensures control { control_of machine.new
+        ≡ record (control_of machine.old) { entry = None; lift = true; window = 0 } }
+    ensures contents { data_of machine.new ≡ record (data_of machine.old) {
+      nibbles = with_register machine.old.control.size.bits machine.old.memory.nibbles
+          r machine.old.content.x;
+    } }
 {
     finish(&mut machine.control, true);
     let size = machine.control.size;
@@ -67,8 +72,10 @@ fn step_store(machine: &mut Machine, place: Place) -> Stop
 /// X is new, after a lift where stack lift is enabled.
 fn recall(machine: &mut Machine, x: u64)
     requires { x < 2 ^ machine.old.control.size.bits }
-    ensures control { control_of machine.new ≡ record (control_of machine.old) { entry = None; lift = true; window = 0 } }
-    ensures contents { data_of machine.new ≡ pushed (control_of machine.old) x (data_of machine.old) }
+    ensures control { control_of machine.new
+        ≡ record (control_of machine.old) { entry = None; lift = true; window = 0 } }
+    ensures contents { data_of machine.new
+        ≡ pushed (control_of machine.old) x (data_of machine.old) }
 {
     let lifts = machine.control.lift;
     push(&mut machine.content, lifts, x);
@@ -119,8 +126,13 @@ fn step_exchange_index(machine: &mut Machine) -> Stop
 /// X and a register change places.
 fn exchange_at(machine: &mut Machine, r: u16)
     requires { r < register_count machine.old.control.size.bits machine.old.memory.blocks }
-    ensures control { control_of machine.new ≡ record (control_of machine.old) { entry = None; lift = true; window = 0 } }
-    ensures contents { data_of machine.new ≡ record (data_of machine.old) { x = register_value machine.old.control.size.bits machine.old.memory.nibbles r; nibbles = with_register machine.old.control.size.bits machine.old.memory.nibbles r machine.old.content.x } }
+    ensures control { control_of machine.new
+        ≡ record (control_of machine.old) { entry = None; lift = true; window = 0 } }
+    ensures contents { data_of machine.new ≡ record (data_of machine.old) {
+      x = register_value machine.old.control.size.bits machine.old.memory.nibbles r;
+      nibbles = with_register machine.old.control.size.bits machine.old.memory.nibbles
+          r machine.old.content.x;
+    } }
 {
     finish(&mut machine.control, true);
     let size = machine.control.size;

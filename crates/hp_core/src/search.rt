@@ -13,7 +13,8 @@ fn find_line(memory: &Memory, first: u16, end: u16, code: u8) -> Option<u16>
     requires from_one { 1 ≤ first }
     requires to_lines { end ≤ length memory.now.program + 1 }
     requires few { end ≤ 1000 }
-    ensures found { result ≡ first_from (λ i. slice_index memory.now.program (i - 1) == code) first (end - first) }
+    ensures found { result
+        ≡ first_from (λ i. slice_index memory.now.program (i - 1) == code) first (end - first) }
     ensures bound { IfSome result (λ line. line < end) }
     ensures from { IfSome result (λ line. first ≤ line) }
 {

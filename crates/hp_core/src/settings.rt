@@ -6,7 +6,7 @@ ghost use Rattle.hp_core.specs.Machines.{Steps};
 
 use crate::machine::Machine;
 use crate::moves::{drop, fail, finish, finish_as_it_was};
-use crate::words::{masked, x_word};
+use crate::words::masked;
 use hp_model::Stop;
 use hp_ops::Setting;
 use hp_words::{Base, Content, Mode, WordSize};
@@ -31,7 +31,8 @@ fn step_mode(machine: &mut Machine, mode: Mode) -> Stop
 
 /// The stack and LAST X lose what is above the word size.
 fn cut(content: &mut Content, size: WordSize)
-    ensures { let d = content.old in let m = 2 ^ size.bits in content.new ≡ record d { x = d.x % m; y = d.y % m; z = d.z % m; t = d.t % m; l = d.l % m } }
+    ensures { let d = content.old in let m = 2 ^ size.bits in content.new
+        ≡ record d { x = d.x % m; y = d.y % m; z = d.z % m; t = d.t % m; l = d.l % m } }
 {
     content.x = masked(size, content.x);
     content.y = masked(size, content.y);
@@ -56,7 +57,7 @@ fn size_named(bits: u64) -> WordSize
 fn step_size(machine: &mut Machine) -> Stop
     ensures { Steps machine.old machine.new result ops.set_size }
 {
-    let bits = x_word(machine).magnitude();
+    let bits = machine.x_word().magnitude();
     if bits > 64 {
         return fail(&mut machine.control, 2);
     }

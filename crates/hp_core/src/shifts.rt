@@ -10,7 +10,6 @@ ghost use Rattle.hp_core.specs.Machines.{Steps, control_of, data_of};
 use crate::answers::{answer_two, answer_x};
 use crate::machine::Machine;
 use crate::moves::{fail, finish, lift, save};
-use crate::words::{x_word, y_word};
 use hp_bits::{Error2, asr, left_justify, rl, rlc, rlcn, rln, rr, rrc, rrcn, rrn, sl, sr};
 use hp_model::{Answer, Stop};
 use hp_ops::{Rotation, Shift};
@@ -19,7 +18,7 @@ use hp_ops::{Rotation, Shift};
 fn step_left_justify(machine: &mut Machine) -> Stop
     ensures { Steps machine.old machine.new result ops.left_justify }
 {
-    let (word, count) = left_justify(x_word(machine));
+    let (word, count) = left_justify(machine.x_word());
     finish(&mut machine.control, true);
     save(&mut machine.content);
     lift(&mut machine.content);
@@ -32,7 +31,7 @@ fn step_left_justify(machine: &mut Machine) -> Stop
 pub fn step_shift(machine: &mut Machine, op: Shift) -> Stop
     ensures { Steps machine.old machine.new result (of_shift op) }
 {
-    let x = x_word(machine);
+    let x = machine.x_word();
     match op {
         Shift::Left => answer_x(machine, sl(x)),
         Shift::Right => answer_x(machine, sr(x)),
@@ -43,10 +42,11 @@ pub fn step_shift(machine: &mut Machine, op: Shift) -> Stop
 
 /// X rotated by one place.
 fn rotated(machine: &Machine, op: Rotation) -> Answer
-    ensures value { result ≡ rotated_of (way op) machine.now.control.size.bits machine.now.content.x (carry_of (data_of machine.now)) }
+    ensures value { result ≡ rotated_of (way op)
+        machine.now.control.size.bits machine.now.content.x (carry_of (data_of machine.now)) }
     ensures bound { result.pattern < 2 ^ machine.now.control.size.bits }
 {
-    let x = x_word(machine);
+    let x = machine.x_word();
     let carry = machine.content.flags[4];
     match op {
         Rotation::Left => rl(x),
@@ -66,12 +66,15 @@ pub fn step_rotate(machine: &mut Machine, op: Rotation) -> Stop
 
 /// Y rotated by as many places as X says.
 fn rotated_many(machine: &Machine, op: Rotation) -> Result<Answer, Error2>
-    ensures refused { IsErr result ↔ (machine.now.control.size.bits < x_magnitude (control_of machine.now) (data_of machine.now)) }
-    ensures value { IfOk result (λ answer. answer ≡ rotated_times_of (way op) machine.now.control.size.bits (x_magnitude (control_of machine.now) (data_of machine.now)) machine.now.content.y (carry_of (data_of machine.now))) }
+    ensures refused { IsErr result ↔ (machine.now.control.size.bits
+        < x_magnitude (control_of machine.now) (data_of machine.now)) }
+    ensures value { IfOk result (λ answer. answer ≡ rotated_times_of (way op)
+        machine.now.control.size.bits (x_magnitude (control_of machine.now) (data_of machine.now))
+        machine.now.content.y (carry_of (data_of machine.now))) }
     ensures bound { IfOk result (λ answer. answer.pattern < 2 ^ machine.now.control.size.bits) }
 {
-    let x = x_word(machine);
-    let y = y_word(machine);
+    let x = machine.x_word();
+    let y = machine.y_word();
     let carry = machine.content.flags[4];
     match op {
         Rotation::Left => rln(y, x),

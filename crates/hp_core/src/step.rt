@@ -47,7 +47,8 @@ impl Machine {
         ensures done { operated (operation op) (machine_of self.old) ≡ step_of self.new result }
         ensures lines { KeepsLines self.old self.new }
         ensures going { result ≡ Stop.Go → 1 ≤ self.old.control.line → 1 ≤ self.new.control.line }
-        ensures kept { (j : ℕ) → writes (operation op) (machine_of self.old) j ≡ false → slice_index self.new.memory.nibbles j ≡ slice_index self.old.memory.nibbles j }
+        ensures kept { (j : ℕ) → writes (operation op) (machine_of self.old) j ≡ false
+            → slice_index self.new.memory.nibbles j ≡ slice_index self.old.memory.nibbles j }
     {
         step_group(self, op)
     }

@@ -14,8 +14,12 @@ impl Machine {
     /// written reads as before at its word size, whatever word sizes come between.
     pub fn step_all(&mut self, ops: &[Op])
         requires { AreFromLines (map operation ops.now) (machine_of self.old) }
-        ensures done { machine_of self.new ≡ operated_all (map operation ops.now) (machine_of self.old) }
-        ensures restored { (w r : ℕ) → ((j : ℕ) → is_of_register w r j ≡ true → all_write (map operation ops.now) (machine_of self.old) j ≡ false) → register_value w self.new.memory.nibbles r ≡ register_value w self.old.memory.nibbles r }
+        ensures done { machine_of self.new
+            ≡ operated_all (map operation ops.now) (machine_of self.old) }
+        ensures restored { (w r : ℕ) → ((j : ℕ) → is_of_register w r j ≡ true
+            → all_write (map operation ops.now) (machine_of self.old) j ≡ false)
+            → register_value w self.new.memory.nibbles r
+            ≡ register_value w self.old.memory.nibbles r }
     {
         for op in ops {
             self.step(*op);

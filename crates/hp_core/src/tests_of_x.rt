@@ -9,16 +9,17 @@ ghost use Rattle.hp_core.specs.Machines.{Steps};
 use crate::machine::Machine;
 use crate::moves::finish_as_it_was;
 use crate::skips::skip_if;
-use crate::words::{x_word, y_word};
 use hp_model::Stop;
 use hp_ops::Test;
 
 /// Whether the condition of a test holds.
 fn test_holds(machine: &Machine, op: Test) -> bool
-    ensures { result ≡ holds_of_test (condition op) (value machine.now.control.size.bits machine.now.control.mode machine.now.content.x) (value machine.now.control.size.bits machine.now.control.mode machine.now.content.y) }
+    ensures { result ≡ holds_of_test (condition op)
+        (value machine.now.control.size.bits machine.now.control.mode machine.now.content.x)
+        (value machine.now.control.size.bits machine.now.control.mode machine.now.content.y) }
 {
-    let x = x_word(machine).value();
-    let y = y_word(machine).value();
+    let x = machine.x_word().value();
+    let y = machine.y_word().value();
     match op {
         Test::AtMostY => x <= y,
         Test::Negative => x < 0,

@@ -4,43 +4,43 @@ ghost use Rattle.std.specs.Prelude.{◌≡◌, ◌%◌, ◌^◌, ◌<◌};
 use crate::machine::Machine;
 use hp_words::{Word, WordSize};
 
-/// X in the machine's size and mode.
-pub fn x_word(machine: &Machine) -> Word
-    ensures size { result.size ≡ machine.now.control.size }
-    ensures mode { result.mode ≡ machine.now.control.mode }
-    ensures pattern { result.pattern ≡ machine.now.content.x }
-{
-    Word::new(
-        machine.control.size,
-        machine.control.mode,
-        machine.content.x,
-    )
-}
+impl Machine {
+    /// X in the machine's size and mode.
+    pub fn x_word(&self) -> Word
+        ensures size { result.size ≡ self.now.control.size }
+        ensures mode { result.mode ≡ self.now.control.mode }
+        ensures pattern { result.pattern ≡ self.now.content.x }
+    {
+        Word::new(self.control.size, self.control.mode, self.content.x)
+    }
 
-/// Y in the machine's size and mode.
-pub fn y_word(machine: &Machine) -> Word
-    ensures size { result.size ≡ machine.now.control.size }
-    ensures mode { result.mode ≡ machine.now.control.mode }
-    ensures pattern { result.pattern ≡ machine.now.content.y }
-{
-    Word::new(
-        machine.control.size,
-        machine.control.mode,
-        machine.content.y,
-    )
-}
+    /// Y in the machine's size and mode.
+    pub(crate) fn y_word(&self) -> Word
+        ensures size { result.size ≡ self.now.control.size }
+        ensures mode { result.mode ≡ self.now.control.mode }
+        ensures pattern { result.pattern ≡ self.now.content.y }
+    {
+        Word::new(self.control.size, self.control.mode, self.content.y)
+    }
 
-/// Z in the machine's size and mode.
-pub fn z_word(machine: &Machine) -> Word
-    ensures size { result.size ≡ machine.now.control.size }
-    ensures mode { result.mode ≡ machine.now.control.mode }
-    ensures pattern { result.pattern ≡ machine.now.content.z }
-{
-    Word::new(
-        machine.control.size,
-        machine.control.mode,
-        machine.content.z,
-    )
+    /// Z in the machine's size and mode.
+    pub(crate) fn z_word(&self) -> Word
+        ensures size { result.size ≡ self.now.control.size }
+        ensures mode { result.mode ≡ self.now.control.mode }
+        ensures pattern { result.pattern ≡ self.now.content.z }
+    {
+        Word::new(self.control.size, self.control.mode, self.content.z)
+    }
+
+    /// The index register as a word.
+    pub(crate) fn index_word(&self) -> Word
+        ensures size { result.size ≡ self.now.control.size }
+        ensures mode { result.mode ≡ self.now.control.mode }
+        ensures pattern { result.pattern ≡ self.now.content.i % 2 ^ self.now.control.size.bits }
+    {
+        let size = self.control.size;
+        Word::new(size, self.control.mode, masked(size, self.content.i))
+    }
 }
 
 /// A number's lowest bits, as many as a word has.
@@ -49,16 +49,6 @@ pub fn masked(size: WordSize, n: u64) -> u64
     ensures bound { result < 2 ^ size.bits }
 {
     n & size.mask()
-}
-
-/// The index register as a word.
-pub fn index_word(machine: &Machine) -> Word
-    ensures size { result.size ≡ machine.now.control.size }
-    ensures mode { result.mode ≡ machine.now.control.mode }
-    ensures pattern { result.pattern ≡ machine.now.content.i % 2 ^ machine.now.control.size.bits }
-{
-    let size = machine.control.size;
-    Word::new(size, machine.control.mode, masked(size, machine.content.i))
 }
 
 /// One as a word.

@@ -9,26 +9,12 @@ use crate::digits::{push_decimal_places, push_places};
 use arrayvec::ArrayString;
 use hp_core::Machine;
 use hp_model::{Base, Mode};
-use hp_words::Word;
-
-/// X as a word.
-fn x_word(machine: &Machine) -> Word
-    ensures size { result.size.bits ≡ machine.now.control.size.bits }
-    ensures mode { result.mode ≡ machine.now.control.mode }
-    ensures pattern { result.pattern ≡ machine.now.content.x }
-{
-    Word::new(
-        machine.control.size,
-        machine.control.mode,
-        machine.content.x,
-    )
-}
 
 /// Whether a minus stands before the decimal digits.
 fn has_minus(machine: &Machine) -> bool
     ensures { result ≡ has_minus_of Base.Dec (control_of machine.now) (data_of machine.now) }
 {
-    let below_zero = x_word(machine).value() < 0;
+    let below_zero = machine.x_word().value() < 0;
     match machine.control.mode {
         Mode::Ones => below_zero || machine.content.x == machine.control.size.mask(),
         _ => below_zero,
@@ -98,7 +84,7 @@ fn push_window(text: &mut ArrayString<32>, machine: &Machine, base: Base, first:
         Base::Hex => push_places(text, x, 4, filled, first as u32),
         Base::Oct => push_places(text, x, 3, filled, first as u32),
         Base::Bin => push_places(text, x, 1, filled, first as u32),
-        Base::Dec => push_decimal_places(text, x_word(machine).magnitude(), first as usize),
+        Base::Dec => push_decimal_places(text, machine.x_word().magnitude(), first as usize),
     }
 }
 
