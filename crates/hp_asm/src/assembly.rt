@@ -9,7 +9,8 @@ use crate::operations::{begins_text, code_of, is_float_key, text_of};
 use crate::routine::Routine;
 use arrayvec::ArrayString;
 use jd_model::AsmCause;
-use jd_text::{next_line, next_word};
+use jd_readers::{TakesLines, read_lines};
+use jd_text::next_word;
 
 /// Adds the operation that a line is, whatever its first word.
 fn take_operation(routine: &mut Routine, line: &[u8]) -> Result<(), AsmCause>
@@ -50,6 +51,31 @@ pub fn take_line(routine: &mut Routine, line: &[u8]) -> Result<(), AsmCause>
     }
 }
 
+/// The operations of the lines of an assembly text.
+#[derive(Drop)]
+struct AssemblyLines {
+    routine: Routine,
+}
+
+impl TakesLines for AssemblyLines {
+    ghost use Rattle.std.specs.Prelude.{ℕ, false, List};
+    ghost use Rattle.jd_model.specs.Assembly.{with_line as with_assembly_line};
+
+    type Cause = AsmCause;
+
+    ghost State = { List ℕ };
+
+    ghost state = { λ lines. lines.routine };
+
+    ghost with_line = { λ _. with_assembly_line };
+
+    ghost is_whole = { λ _. false };
+
+    fn take_line(&mut self, line: &[u8]) -> Result<(), AsmCause> {
+        take_line(&mut self.routine, line)
+    }
+}
+
 /// The routine that an assembly text is: on each line one operation, by its listing text. Words stand
 /// apart by blanks, tabs and CR, and lines without words are skipped.
 pub fn assemble(text: &[u8]) -> Result<Routine, AsmFault>
@@ -57,21 +83,13 @@ pub fn assemble(text: &[u8]) -> Result<Routine, AsmFault>
     ensures routine { IfOk result (λ routine. assembled text.now ≡ Ok routine) }
     ensures fault { IfErr result (λ fault. assembled text.now ≡ Err (fault.line, fault.cause)) }
 {
-    let mut routine = Routine::new();
-    let mut at = 0;
-    let mut number = 1;
-    'lines: while let Some((line, next)) = next_line(text, at) {
-        match take_line(&mut routine, line) {
-            Ok(()) => {}
-            Err(cause) => return Err(AsmFault {
-                line: number,
-                cause,
-            }),
-        }
-        at = next;
-        number += 1;
+    let mut lines = AssemblyLines {
+        routine: Routine::new(),
+    };
+    match read_lines(&mut lines, text) {
+        Ok(_) => Ok(lines.routine),
+        Err((line, cause)) => Err(AsmFault { line, cause }),
     }
-    Ok(routine)
 }
 
 /// Adds the line of a code's operation.

@@ -9,7 +9,8 @@ use crate::faults::CodeFault;
 use crate::routine::Routine;
 use arrayvec::ArrayString;
 use jd_numbers::{digit_value, push_digit};
-use jd_text::{next_line, next_word};
+use jd_readers::{TakesLines, read_lines};
+use jd_text::next_word;
 
 /// The code of two digits.
 fn code_of_digits(high: u8, low: u8) -> Option<u8>
@@ -68,6 +69,35 @@ fn take_codes(routine: &mut Routine, line: &[u8]) -> bool
     true
 }
 
+/// The operations of the lines of a text of codes.
+#[derive(Drop)]
+struct CodeLines {
+    routine: Routine,
+}
+
+impl TakesLines for CodeLines {
+    ghost use Rattle.std.specs.Prelude.{ℕ, false, List};
+    ghost use Rattle.jd_model.specs.Assembly.{with_codes};
+
+    type Cause = ();
+
+    ghost State = { List ℕ };
+
+    ghost state = { λ lines. lines.routine };
+
+    ghost with_line = { λ _. with_codes };
+
+    ghost is_whole = { λ _. false };
+
+    fn take_line(&mut self, line: &[u8]) -> Result<(), ()> {
+        if take_codes(&mut self.routine, line) {
+            Ok(())
+        } else {
+            Err(())
+        }
+    }
+}
+
 /// The routine of a text of codes, each two hexadecimal digits in either case. Words stand apart by
 /// blanks, tabs, CR and line ends.
 pub fn read_codes(bytes: &[u8]) -> Result<Routine, CodeFault>
@@ -75,17 +105,13 @@ pub fn read_codes(bytes: &[u8]) -> Result<Routine, CodeFault>
     ensures routine { IfOk result (λ routine. routine_of_codes bytes.now ≡ Ok routine) }
     ensures fault { IfErr result (λ fault. routine_of_codes bytes.now ≡ Err (fault.line, tt)) }
 {
-    let mut routine = Routine::new();
-    let mut at = 0;
-    let mut number = 1;
-    'lines: while let Some((line, next)) = next_line(bytes, at) {
-        if !take_codes(&mut routine, line) {
-            return Err(CodeFault { line: number });
-        }
-        at = next;
-        number += 1;
+    let mut lines = CodeLines {
+        routine: Routine::new(),
+    };
+    match read_lines(&mut lines, bytes) {
+        Ok(_) => Ok(lines.routine),
+        Err((line, ())) => Err(CodeFault { line }),
     }
-    Ok(routine)
 }
 
 /// Adds the two digits of a code.

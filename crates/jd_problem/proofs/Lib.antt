@@ -3,7 +3,6 @@ pub mod FieldLists
 pub mod ProblemRanges
 pub mod Observed
 pub mod FixedParts
-pub mod LinesRead
 pub mod PartLines
 pub mod Listings
 pub mod WholeTexts

@@ -9,7 +9,32 @@ use crate::problem::Problem;
 use crate::problem_lines::take_problem_line;
 use crate::reading::Reading;
 use jd_model::ProblemCause;
-use jd_text::next_line;
+use jd_readers::{TakesLines, TakesLinesToEnd, read_until};
+
+impl TakesLines for Reading {
+    ghost use Rattle.jd_model.specs.ProblemTexts.{Reading as ReadingValue, with_problem_line, is_whole};
+    ghost use Rattle.jd_problem.specs.Readings.{reading_of};
+
+    type Cause = ProblemCause;
+
+    ghost State = { ReadingValue };
+
+    ghost state = { reading_of };
+
+    ghost with_line = { λ _. with_problem_line };
+
+    ghost is_whole = { is_whole };
+
+    fn take_line(&mut self, line: &[u8]) -> Result<(), ProblemCause> {
+        take_problem_line(self, line)
+    }
+}
+
+impl TakesLinesToEnd for Reading {
+    fn is_whole(&self) -> bool {
+        self.given == 11
+    }
+}
 
 /// The problem at the beginning of a text, and the number of bytes up to and with its `end` line, the line
 /// feed of that line included where there is one. Words stand apart by blanks, tabs and CR, and lines
@@ -21,24 +46,8 @@ pub fn read_problem(bytes: &[u8]) -> Result<(Problem, usize), ProblemFault>
     ensures fault { IfErr result (λ fault. problem_of_text bytes.now ≡ Err (fault.line, fault.cause)) }
 {
     let mut reading = Reading::new();
-    let mut at = 0;
-    let mut number = 1;
-    'lines: while let Some((line, next)) = next_line(bytes, at) {
-        match take_problem_line(&mut reading, line) {
-            Ok(()) => {}
-            Err(cause) => return Err(ProblemFault {
-                line: number,
-                cause,
-            }),
-        }
-        if reading.is_whole() {
-            return Ok((reading.problem, next));
-        }
-        at = next;
-        number += 1;
+    match read_until(&mut reading, bytes, ProblemCause::Missing) {
+        Ok(end) => Ok((reading.problem, end)),
+        Err((line, cause)) => Err(ProblemFault { line, cause }),
     }
-    Err(ProblemFault {
-        line: number,
-        cause: ProblemCause::Missing,
-    })
 }

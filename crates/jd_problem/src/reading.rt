@@ -20,7 +20,7 @@ pub struct Reading {
 }
 
 impl Reading {
-    ghost use Rattle.jd_model.specs.ProblemTexts.{nothing_read, is_whole};
+    ghost use Rattle.jd_model.specs.ProblemTexts.{nothing_read};
     ghost use Rattle.jd_problem.specs.Readings.{reading_of};
 
     /// The reading before any line.
@@ -42,12 +42,5 @@ impl Reading {
                 second: Routine::new(),
             },
         }
-    }
-
-    /// Whether `end` was given.
-    pub fn is_whole(&self) -> bool
-        ensures { result ≡ is_whole (reading_of self.now) }
-    {
-        self.given == 11
     }
 }

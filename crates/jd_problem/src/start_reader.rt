@@ -10,8 +10,35 @@ use crate::problem::Problem;
 use crate::start_lines::take_start_line;
 use crate::start_reading::StartReading;
 use jd_model::ProblemCause;
+use jd_readers::{TakesLines, read_lines};
 use jd_start::Start;
-use jd_text::next_line;
+
+/// The lines of a start for a problem.
+#[derive(Drop)]
+struct StartLines<'a> {
+    problem: &'a Problem,
+    reading: StartReading,
+}
+
+impl TakesLines for StartLines<'_> {
+    ghost use Rattle.std.specs.Prelude.{false};
+    ghost use Rattle.jd_model.specs.StartTexts.{StartReading as ReadingValue, with_start_line};
+    ghost use Rattle.jd_problem.specs.Problems.{problem_of};
+
+    type Cause = ProblemCause;
+
+    ghost State = { ReadingValue };
+
+    ghost state = { λ lines. lines.reading };
+
+    ghost with_line = { λ lines. with_start_line (problem_of lines.problem.now) };
+
+    ghost is_whole = { λ _. false };
+
+    fn take_line(&mut self, line: &[u8]) -> Result<(), ProblemCause> {
+        take_start_line(self.problem, &mut self.reading, line)
+    }
+}
 
 /// The start that a text says, for a problem: `start`, the words X, Y, Z, T, L and I each with a number
 /// in hexadecimal, `flags` with flag 5 to flag 0, `M` with the nibbles from nibble 0 upwards, of which
@@ -23,25 +50,19 @@ pub fn read_start(problem: &Problem, bytes: &[u8]) -> Result<Start, ProblemFault
     ensures allowed { IfOk result (λ start. allows (problem_of problem.now) (start_data start) ≡ true) }
     ensures fault { IfErr result (λ fault. start_of_text (problem_of problem.now) bytes.now ≡ Err (fault.line, fault.cause)) }
 {
-    let mut reading = StartReading::new();
-    let mut at = 0;
-    let mut number = 1;
-    'lines: while let Some((line, next)) = next_line(bytes, at) {
-        match take_start_line(problem, &mut reading, line) {
-            Ok(()) => {}
-            Err(cause) => return Err(ProblemFault {
-                line: number,
-                cause,
-            }),
-        }
-        at = next;
-        number += 1;
-    }
-    if reading.given() < 10 {
+    let mut lines = StartLines {
+        problem,
+        reading: StartReading::new(),
+    };
+    let count = match read_lines(&mut lines, bytes) {
+        Ok(count) => count,
+        Err((line, cause)) => return Err(ProblemFault { line, cause }),
+    };
+    if lines.reading.given() < 10 {
         return Err(ProblemFault {
-            line: number,
+            line: count + 1,
             cause: ProblemCause::Missing,
         });
     }
-    Ok(reading.into_start())
+    Ok(lines.reading.into_start())
 }
