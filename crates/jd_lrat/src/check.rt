@@ -6,7 +6,7 @@ ghost use Rattle.jd_lrat.specs.CnfTexts.{IsLineStart};
 ghost use Rattle.jd_lrat.specs.Checks.{IsStepped, progress_of, stepped, verdict_after, verdict_on};
 
 use crate::checker::Checker;
-use crate::dimacs::take_cnf;
+use crate::dimacs::{Taken, take_cnf};
 use crate::line_text::read_line;
 use crate::words::is_skipped;
 use crate::{CnfFault, LineFault, NoMemory, ProofText};
@@ -115,9 +115,9 @@ pub fn check_text(alloc: Global, bytes: &[u8]) -> Result<Verdict, NoMemory>
     ensures { IfOk result (λ v. v ≡ verdict_of bytes.now) }
 {
     match take_cnf(alloc, bytes) {
-        Ok(taken) => {
-            let checker = Checker::new(alloc, &taken.clauses)?;
-            check_lines(alloc, checker, bytes, taken.at, taken.lines)
+        Ok(Taken { clauses, at, lines }) => {
+            let checker = Checker::of_clauses(alloc, clauses)?;
+            check_lines(alloc, checker, bytes, at, lines)
         }
         Err(CnfFault::Syntax { line }) => Ok(Verdict::NotText {
             line: u64::from(line),

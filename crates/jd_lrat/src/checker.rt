@@ -31,18 +31,6 @@ impl Model for Checker {
 }
 
 impl Checker {
-    fn empty(alloc: Global) -> Checker
-        ensures state { result.state ≡ begun [] }
-        ensures fresh { result.spent ≡ false }
-    {
-        Checker {
-            store: Store::new(alloc),
-            marks: Marks::new(alloc),
-            refuted: false,
-            spent: false,
-        }
-    }
-
     /// Whether the empty clause was given or derived. Its deletion doesn't undo that.
     pub fn refuted(&self) -> bool
         ensures { result ≡ self.now.state.refuted }
@@ -118,14 +106,23 @@ impl Checker {
         }
     }
 
+    /// A checker that keeps these clauses, with no copy of them; their ids are 1, 2 and so on.
+    pub(crate) fn of_clauses(alloc: Global, clauses: Clauses) -> Result<Checker, NoMemory>
+        ensures { IfOk result (λ c. c ≡ record { state = begun clauses; spent = false }) }
+    {
+        let refuted = clauses.has_empty();
+        Ok(Checker {
+            store: Store::of_clauses(alloc, clauses)?,
+            marks: Marks::new(alloc),
+            refuted,
+            spent: false,
+        })
+    }
+
     /// A checker with these clauses, whose ids are 1, 2 and so on.
     pub fn new(alloc: Global, clauses: &Clauses) -> Result<Checker, NoMemory>
         ensures { IfOk result (λ c. c ≡ record { state = begun clauses.now; spent = false }) }
     {
-        let mut checker = Checker::empty(alloc);
-        for i in 0..clauses.len() {
-            checker.give(i as u64 + 1, clauses.clause(i))?;
-        }
-        Ok(checker)
+        Checker::of_clauses(alloc, clauses.try_clone(alloc)?)
     }
 }

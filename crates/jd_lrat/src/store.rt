@@ -1,126 +1,115 @@
 //! Clauses by their ids.
-ghost use Rattle.std.specs.Prelude.{◌≡◌, ℕ, ◌+◌, ◌-◌, ◌<◌, ◌≤◌, ℤ, [], ◌∷◌, ◌++◌, IfSome, IfOk, OnOk, OnErr, MatchOption, option_map, length, slice_index_or, slice_set, List, None, pos, Ok, Err, true, MatchBool};
-ghost use Rattle.std.specs.List.{All, Contains};
+ghost use Rattle.std.specs.Prelude.{◌≡◌, ◌<◌, ◌∷◌, ◌++◌, [], IfSome, IfOk, OnOk, OnErr, MatchOption, MatchBool, option_map, length, pos, Ok, Err, true};
+ghost use Rattle.std.specs.List.{Contains};
 ghost use Rattle.jd_logic.specs.Literals.{AreLiterals};
+ghost use Rattle.jd_logic.specs.Checking.{numbered_from};
 ghost use Rattle.jd_logic.specs.Derivation.{clause_of, deleted};
 ghost use Rattle.jd_logic.specs.declared.answers.BadLine.TheVariants.{NoClause};
-ghost use Rattle.jd_lrat.specs.Kept.{IsAscending, IsPlace, IsAbsent, Hides, Lacks, kept_with, clauses_in, restored, Deletes, all_there, with_there};
-ghost use Rattle.jd_lrat.specs.declared.store.Entry.{Entry};
+ghost use Rattle.jd_lrat.specs.IdPlaces.{IsAscending, ids_of};
+ghost use Rattle.jd_lrat.specs.Kept.{Deletes, Hides, Lacks, kept_with, restored, with_there};
 
-use crate::NoMemory;
+use crate::clause_ids::ClauseIds;
+use crate::{Clauses, NoMemory};
 use std::alloc::Global;
 use std::marker::Model;
 
-/// A clause's id, where its literals stand among all, and whether it is there still.
-#[derive(Clone, Copy)]
-pub struct Entry {
-    pub id: u64,
-    pub from: usize,
-    pub to: usize,
-    pub there: bool,
-}
-
-/// Clauses in the order of their ids.
+/// Clauses in the order of their ids, and whether each is there still.
 #[derive(Drop)]
 pub struct Store {
-    entries: Vec<Entry>,
-    literals: Vec<i32>,
+    ids: ClauseIds,
+    clauses: Clauses,
+    there: Vec<bool>,
     greatest: u64,
 }
 
 impl Model for Store {
-    ghost use Rattle.jd_lrat.specs.Kept.{Kept, clauses_in, IsOrderly};
+    ghost use Rattle.jd_lrat.specs.IdPlaces.{ids_of};
+    ghost use Rattle.jd_lrat.specs.Kept.{IsOrderly, Kept, clauses_in};
 
     ghost Value = { Kept };
 
     ghost view = { λ s. record {
-      clauses = clauses_in s.literals.items s.entries.items;
+      clauses = clauses_in (ids_of s.ids) s.clauses s.there.items;
       greatest = s.greatest;
     } };
 
-    ghost invariant = { λ s. IsOrderly s.entries.items s.literals.items s.greatest };
-}
-
-/// The place of an id. Where no id is missing before it, that is its own number less one.
-fn position(entries: &[Entry], id: u64) -> Option<usize>
-    requires { IsAscending entries.now }
-    ensures { MatchOption result (IsAbsent entries.now id) (λ i. IsPlace entries.now id i) }
-{
-    if 0 < id && id <= entries.len() as u64 {
-        let guess = id as usize - 1;
-        if entries[guess].id == id {
-            return Some(guess);
-        }
-    }
-    let mut low = 0;
-    let mut high = entries.len();
-    while low < high {
-        let middle = low + (high - low) / 2;
-        let e = entries[middle];
-        if e.id < id {
-            low = middle + 1;
-        } else if id < e.id {
-            high = middle;
-        } else {
-            return Some(middle);
-        }
-    }
-    None
+    ghost invariant = { λ s. IsOrderly (ids_of s.ids) s.clauses s.there.items s.greatest };
 }
 
 /// Lets an id's clause be there again.
-fn show(entries: &mut Vec<Entry>, id: u64)
-    requires { IsAscending entries.old.items }
-    ensures { entries.new.items ≡ with_there id true entries.old.items }
+fn show(ids: &ClauseIds, there: &mut Vec<bool>, id: u64)
+    requires ascending { IsAscending (ids_of ids.now) }
+    requires flags { length there.old.items ≡ length (ids_of ids.now) }
+    ensures { there.new.items ≡ with_there id true (ids_of ids.now) there.old.items }
 {
-    if let Some(i) = position(entries.as_slice(), id) {
-        entries[i].there = true;
+    if let Some(i) = ids.position(id) {
+        there[i] = true;
     }
 }
 
 /// Takes an id's clause away; false where it isn't there.
-fn hide(entries: &mut Vec<Entry>, id: u64) -> bool
-    requires { IsAscending entries.old.items }
-    ensures { MatchBool result (Hides entries.old.items id entries.new.items) (Lacks entries.old.items id entries.new.items) }
+fn hide(ids: &ClauseIds, there: &mut Vec<bool>, id: u64) -> bool
+    requires ascending { IsAscending (ids_of ids.now) }
+    requires flags { length there.old.items ≡ length (ids_of ids.now) }
+    ensures { MatchBool result
+        (Hides (ids_of ids.now) there.old.items id there.new.items)
+        (Lacks (ids_of ids.now) there.old.items id there.new.items) }
 {
-    match position(entries.as_slice(), id) {
+    match ids.position(id) {
         None => false,
         Some(i) => {
-            let e = entries[i];
-            if e.there {
-                entries[i].there = false;
-                true
-            } else {
-                false
-            }
+            let was_there = there[i];
+            there[i] = false;
+            was_there
         }
     }
 }
 
 /// Lets the clauses of some ids be there again.
-fn show_all(entries: &mut Vec<Entry>, ids: &[u64])
-    requires { IsAscending entries.old.items }
-    ensures { entries.new.items ≡ restored entries.old.items ids.now }
+fn show_all(ids: &ClauseIds, there: &mut Vec<bool>, gone: &[u64])
+    requires ascending { IsAscending (ids_of ids.now) }
+    requires flags { length there.old.items ≡ length (ids_of ids.now) }
+    ensures { there.new.items ≡ restored (ids_of ids.now) there.old.items gone.now }
 {
-    for id in ids {
-        show(entries, *id);
+    for id in gone {
+        show(ids, there, *id);
     }
 }
 
 /// Takes the clauses of some ids away, or changes nothing and gives the first that isn't there.
-fn hide_all(entries: &mut Vec<Entry>, ids: &[u64]) -> Option<u64>
-    requires { IsAscending entries.old.items }
-    ensures deletes { Deletes entries.old.items ids.now result entries.new.items }
-    ensures alike { all_there entries.new.items ≡ all_there entries.old.items }
-    ensures among { IfSome result (λ id. Contains ids.now id) }
+fn hide_all(ids: &ClauseIds, there: &mut Vec<bool>, gone: &[u64]) -> Option<u64>
+    requires ascending { IsAscending (ids_of ids.now) }
+    requires flags { length there.old.items ≡ length (ids_of ids.now) }
+    ensures deletes { Deletes (ids_of ids.now) there.old.items gone.now result there.new.items }
+    ensures as_many { length there.new.items ≡ length there.old.items }
+    ensures among { IfSome result (λ id. Contains gone.now id) }
 {
-    for i in 0..ids.len() {
-        if !hide(entries, ids[i]) {
-            show_all(entries, &ids[..i]);
-            return Some(ids[i]);
+    for i in 0..gone.len() {
+        if !hide(ids, there, gone[i]) {
+            show_all(ids, there, &gone[..i]);
+            return Some(gone[i]);
         }
     }
     None
+}
+
+/// Puts a clause at the end, which is there. After `NoMemory` both lists are as before.
+fn put(clauses: &mut Clauses, there: &mut Vec<bool>, clause: &[i32]) -> Result<(), NoMemory>
+    requires { AreLiterals clause.now }
+    ensures clauses { OnOk result (clauses.new ≡ clauses.old ++ clause.now ∷ []) }
+    ensures flags { OnOk result (there.new.items ≡ there.old.items ++ true ∷ []) }
+    ensures same_clauses { OnErr result (clauses.new ≡ clauses.old) }
+    ensures same_flags { OnErr result (there.new.items ≡ there.old.items) }
+{
+    let count = there.len();
+    there.push(true)?;
+    match clauses.push(clause) {
+        Ok(()) => Ok(()),
+        Err(_) => {
+            there.truncate(count);
+            Err(NoMemory)
+        }
+    }
 }
 
 impl Store {
@@ -128,12 +117,11 @@ impl Store {
         ensures clause { option_map (λ r. r.now) result ≡ clause_of id self.now.clauses }
         ensures range { IfSome result (λ r. AreLiterals r.now) }
     {
-        match position(self.entries.as_slice(), id) {
+        match self.ids.position(id) {
             None => None,
             Some(i) => {
-                let e = self.entries[i];
-                if e.there {
-                    Some(&self.literals[e.from..e.to])
+                if self.there[i] {
+                    Some(self.clauses.clause(i))
                 } else {
                     None
                 }
@@ -147,14 +135,25 @@ impl Store {
         self.greatest
     }
 
-    pub fn new(alloc: Global) -> Store
-        ensures { result ≡ record { clauses = []; greatest = 0 } }
+    /// Clauses that are all there, with the ids 1, 2 and so on.
+    pub fn of_clauses(alloc: Global, clauses: Clauses) -> Result<Store, NoMemory>
+        ensures { IfOk result (λ s. s ≡ record {
+          clauses = numbered_from 1 clauses;
+          greatest = length clauses;
+        }) }
     {
-        Store {
-            entries: Vec::new(alloc),
-            literals: Vec::new(alloc),
-            greatest: 0,
-        }
+        let given = clauses.len();
+        let mut there = Vec::new(alloc);
+        there.resize(given, true)?;
+        Ok(Store {
+            ids: ClauseIds {
+                given,
+                derived: Vec::new(alloc),
+            },
+            clauses,
+            there,
+            greatest: given as u64,
+        })
     }
 
     pub fn push(&mut self, id: u64, clause: &[i32]) -> Result<(), NoMemory>
@@ -162,23 +161,18 @@ impl Store {
         requires literals { AreLiterals clause.now }
         ensures { OnOk result (self.new ≡ kept_with self.old id clause.now) }
     {
-        let from = self.literals.len();
-        match self.literals.extend_from_slice(clause) {
-            Ok(()) => {}
-            Err(_) => return Err(NoMemory),
+        let count = self.ids.derived.len();
+        self.ids.derived.push(id)?;
+        match put(&mut self.clauses, &mut self.there, clause) {
+            Ok(()) => {
+                self.greatest = id;
+                Ok(())
+            }
+            Err(_) => {
+                self.ids.derived.truncate(count);
+                Err(NoMemory)
+            }
         }
-        let to = self.literals.len();
-        match self.entries.push(Entry {
-            id,
-            from,
-            to,
-            there: true,
-        }) {
-            Ok(()) => {}
-            Err(_) => return Err(NoMemory),
-        }
-        self.greatest = id;
-        Ok(())
     }
 
     /// Takes the clauses of some ids away, or changes nothing and gives the first that isn't there.
@@ -188,6 +182,6 @@ impl Store {
             (λ id. (deleted self.old.clauses ids.now ≡ Err (NoClause (pos id))) × (self.new ≡ self.old)) }
         ensures among { IfSome result (λ id. Contains ids.now id) }
     {
-        hide_all(&mut self.entries, ids)
+        hide_all(&self.ids, &mut self.there, ids)
     }
 }
