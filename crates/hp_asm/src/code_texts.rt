@@ -1,8 +1,7 @@
 // Texts of codes.
-ghost use Rattle.std.specs.Prelude.{◌≡◌, ◌+◌, ◌*◌, ◌<◌, ◌≤◌, ◌^◌, ◌∷◌, [], ◌++◌, length, Bool, true, false, Ok, Err, IfSome, IfOk, IfErr};
+ghost use Rattle.std.specs.Prelude.{◌≡◌, ◌+◌, ◌*◌, ◌<◌, ◌≤◌, ◌^◌, ◌∷◌, [], ◌++◌, length, Ok, Err, OnOk, OnErr, IfSome, IfOk, IfErr};
 ghost use Rattle.arrayvec.specs.ArrayString.{array_string_len};
-ghost use Rattle.jd_logic.specs.Words.{words_of};
-ghost use Rattle.jd_model.specs.Assembly.{code_of_digits, code_of_word, with_code, with_codes, routine_of_codes, code_text, codes_text};
+ghost use Rattle.jd_model.specs.Assembly.{code_of_digits, code_of_word, with_code, routine_of_codes, code_text, codes_text};
 ghost use Rattle.hp_asm.specs.Separated.{after};
 
 use crate::faults::CodeFault;
@@ -37,36 +36,21 @@ fn code_of(word: &[u8]) -> Option<u8>
     }
 }
 
-/// Adds the code that a word is. False where it is none or one too many.
-fn take_code(routine: &mut Routine, word: &[u8]) -> bool
-    ensures taken { result ≡ true → with_code routine.old word.now ≡ Ok routine.new }
-    ensures refused { result ≡ false → with_code routine.old word.now ≡ Err tt }
+/// Adds the code that a word is. An `Err` where it is none or one too many.
+fn take_code(routine: &mut Routine, word: &[u8]) -> Result<(), ()>
+    ensures taken { OnOk result (with_code routine.old word.now ≡ Ok routine.new) }
+    ensures refused { OnErr result (with_code routine.old word.now ≡ Err tt) }
 {
     match code_of(word) {
-        None => false,
+        None => Err(()),
         Some(code) => {
             if routine.is_full() {
-                return false;
+                return Err(());
             }
             routine.push(code);
-            true
+            Ok(())
         }
     }
-}
-
-/// Adds the codes of a line. False where one of its words is bad.
-fn take_codes(routine: &mut Routine, line: &[u8]) -> bool
-    ensures taken { result ≡ true → with_codes routine.old (words_of line.now) ≡ Ok routine.new }
-    ensures refused { result ≡ false → with_codes routine.old (words_of line.now) ≡ Err tt }
-{
-    let mut at = 0;
-    'words: while let Some((word, end)) = next_word(line, at) {
-        if !take_code(routine, word) {
-            return false;
-        }
-        at = end;
-    }
-    true
 }
 
 /// The operations of the lines of a text of codes.
@@ -90,11 +74,12 @@ impl TakesLines for CodeLines {
     ghost is_whole = { λ _. false };
 
     fn take_line(&mut self, line: &[u8]) -> Result<(), ()> {
-        if take_codes(&mut self.routine, line) {
-            Ok(())
-        } else {
-            Err(())
+        let mut at = 0;
+        'words: while let Some((word, end)) = next_word(line, at) {
+            take_code(&mut self.routine, word)?;
+            at = end;
         }
+        Ok(())
     }
 }
 

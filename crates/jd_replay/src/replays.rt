@@ -1,6 +1,5 @@
 // The two runs from a start.
 ghost use Rattle.std.specs.Prelude.{◌≡◌, ◌≤◌, ◌*◌, ◌^◌, ◌<◌, true, length};
-ghost use Rattle.hp_model.specs.State.{register_nibbles};
 ghost use Rattle.hp_core.specs.Machines.{data_of};
 ghost use Rattle.jd_model.specs.Problems.{allows, blocks};
 ghost use Rattle.jd_model.specs.Seen.{seen};
