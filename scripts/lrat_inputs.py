@@ -1,12 +1,12 @@
 #!/usr/bin/env python3
-"""Writes the inputs of crates/lrat_inputs/data/lrat.jsonl for the proofs and for the tests of the command `lrat`.
+"""Writes the inputs of crates/try_proofs/data/lrat.jsonl for the proofs and for the tests of the command `lrat`.
 
     scripts/lrat_inputs.py        (at the top of the repository)
 
 Each line of the file is a case {"input", "output", "status"} in which a character is a byte (Latin-1).
 The answers come from a checker that was written apart from this project. Each becomes a statement
 in crates/jd_logic/proofs/LratInputs.antt that computing the definition proves, and an input of the
-program lrat_inputs, whose inputs a byte 1 parts.
+program try_proofs, whose inputs a byte 1 parts.
 """
 
 import json
@@ -39,14 +39,14 @@ def term(text):
 
 
 def main():
-    cases = [json.loads(line) for line in (TOP / "crates/lrat_inputs/data/lrat.jsonl").read_text().splitlines()]
+    cases = [json.loads(line) for line in (TOP / "crates/try_proofs/data/lrat.jsonl").read_text().splitlines()]
     statements = []
     for number, case in enumerate(cases, 1):
         assert case["output"].endswith("\n") and "\1" not in case["input"]
         goal = "Answers %s %s %d" % (term(case["input"]), term(case["output"][:-1]), case["status"])
         statements.append("\ninput_%d : %s\nunfolding digits\ninput_%d = refl\n" % (number, goal, number))
     (TOP / "crates/jd_logic/proofs/LratInputs.antt").write_text(HEAD + "".join(statements))
-    program = TOP / "crates/lrat_inputs"
+    program = TOP / "crates/try_proofs"
     (program / "stdin").write_bytes("\1".join(case["input"] for case in cases).encode("latin-1"))
     (program / "stdout").write_text("".join(case["output"] for case in cases))
 

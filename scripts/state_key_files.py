@@ -1,16 +1,18 @@
 #!/usr/bin/env python3
-"""Writes the statements of the crate key_file_examples from the key files in crates/command_trials/data.
+"""Writes the statements of the crate key_file_examples from the key files in crates/try_cases/data.
 
-Each case of operations.txt, programs.txt and teaching.txt is a key file with the display of each line. It becomes
-one field of a record in specs/, and the field's proof, by computation, in proofs/laws/.
+Each case of the five files below is a key file with the display of each line. It becomes
+one field of a record in specs/, and the field's proof, by computation, in proofs/laws/. The few that run 100,000
+lines are left to try_cases, since no computation of the prover goes so far.
 
 usage: scripts/state_key_files.py     at the top of the repository; it replaces the files it wrote before
 """
 import shutil
 from pathlib import Path
 
-DATA = Path("crates/command_trials/data")
+DATA = Path("crates/try_cases/data")
 CRATE = Path("crates/key_file_examples")
+KINDS = ["Operations", "Programs", "Corners", "Large", "Teaching"]
 CASES_A_MODULE = 30
 
 
@@ -26,7 +28,7 @@ def cases(path):
         else:
             keys, display = line.split(" => ")
             found[-1][1].append((keys, display))
-    return found
+    return [(name, rows) for name, rows in found if all(shown != "Error 8" for _, shown in rows)]
 
 
 def field(name, rows):
@@ -72,9 +74,7 @@ def state(kind, found):
 def main():
     shutil.rmtree(CRATE / "specs", ignore_errors=True)
     shutil.rmtree(CRATE / "proofs/laws", ignore_errors=True)
-    names = state("Operations", cases(DATA / "operations.txt"))
-    names += state("Programs", cases(DATA / "programs.txt"))
-    names += state("Teaching", cases(DATA / "teaching.txt"))
+    names = [name for kind in KINDS for name in state(kind, cases(DATA / f"{kind.lower()}.txt"))]
     write(CRATE / "specs/Lib.antt", "".join(f"pub mod {name}\n" for name in names))
     uses = "".join(f"ghost use Rattle.key_file_examples.specs.{name}.{{{name}}};\n" for name in names)
     laws = "\n".join(

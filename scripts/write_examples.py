@@ -1,5 +1,5 @@
 #!/usr/bin/env python3
-"""Writes the key files for teachers, and their displays, from crates/command_trials/data/teaching.txt.
+"""Writes the key files for teachers, and their displays, from crates/try_cases/data/teaching.txt.
 
 Each case becomes examples/NAME.keys, to be given to `./hp16c keys`, and examples/NAME.displays, what
 that prints. The gate runs the cases themselves.
@@ -8,7 +8,7 @@ usage: scripts/write_examples.py     at the top of the repository; it replaces t
 """
 from pathlib import Path
 
-CASES = Path("crates/command_trials/data/teaching.txt")
+CASES = Path("crates/try_cases/data/teaching.txt")
 EXAMPLES = Path("examples")
 
 

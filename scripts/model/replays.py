@@ -2,7 +2,7 @@
 """Problems and starts made at random, and what a replay of each prints by the Python machine beside this file.
 
 usage, at the top of the repository:
-    scripts/model/replays.py write                         writes crates/command_trials/data/replays.txt
+    scripts/model/replays.py write                         writes crates/try_cases/data/replays.txt
     scripts/model/replays.py compare PROGRAM SEED COUNT    compares a built program with the Python machine on so many random ones
 """
 import subprocess
@@ -13,7 +13,7 @@ from random import Random
 from machine import HEX_DIGITS, TEXTS, Machine
 from texts import FLAG_PARTS, NUMBER_PARTS, PARTS, BadLine, Problem, Start, lines_of, read_problem, read_start
 
-DATA = Path("crates/command_trials/data/replays.txt")
+DATA = Path("crates/try_cases/data/replays.txt")
 WRITTEN = 300
 
 

@@ -1,5 +1,5 @@
--- What holds of each answer to a query.
-use Rattle.std.proofs.Common.{◌≡◌, ◌≢◌, ℕ, List, Bool, true, false, refl, subst}
+-- What holds of each answer to a command.
+use Rattle.std.proofs.Common.{◌≡◌, ◌≢◌, ℕ, List, Bool, true, false, refl, sym, subst}
 use Rattle.std.specs.Prelude.{Ok, Err, ⊤}
 use Rattle.jd_logic.specs.declared.answers.Verdict.TheVariants.{NotText, Refuted, NotRefuted, Bad}
 use Rattle.jd_logic.specs.Verdict.{verdict_of}
@@ -10,26 +10,27 @@ use Rattle.hp16c_commands.specs.declared.outcomes.Kept.TheVariants.{Nothing}
 use Rattle.hp16c_commands.specs.declared.outcomes.Outcome.{Outcome}
 use Rattle.hp16c_commands.specs.declared.outcomes.Status.{Status}
 use Rattle.hp16c_commands.specs.declared.outcomes.Status.TheVariants.{Done, Different, BadInput, Limit, CertRefused}
-use Rattle.hp16c_commands.specs.declared.queries.Query.{Query}
-use Rattle.hp16c_commands.specs.declared.queries.Query.TheVariants as queries
+use Rattle.hp16c_commands.specs.declared.whole_inputs.WholeInput.{WholeInput}
+use Rattle.hp16c_commands.specs.declared.whole_inputs.WholeInput.TheVariants as inputs
 use Rattle.hp16c_commands.specs.Assemble.{coded}
 use Rattle.hp16c_commands.specs.List.{listed}
 use Rattle.hp16c_commands.specs.Lrat.{answer_of_verdict}
 use Rattle.hp16c_commands.specs.Replay.{status_of_agreement, replayed}
-use Rattle.hp16c_commands.specs.Queries.{answer_to, IsOutcomeOf}
+use Rattle.hp16c_commands.specs.Answers.{Answer}
+use Rattle.hp16c_commands.specs.WholeInputs.{Answers, IsOutcomeOf}
 
 -- which statuses an answer may have: only `replay` finds a difference, and only `lrat` refuses a proof
-abbrev MayAnswer : Query → Status → Type 0
-MayAnswer query Done = ⊤
-MayAnswer query BadInput = ⊤
-MayAnswer query Limit = ⊤
-MayAnswer query Different = query ≡ queries.Replay
-MayAnswer query CertRefused = query ≡ queries.Lrat
-MayAnswer query _ = ⊥
+abbrev MayAnswer : WholeInput → Status → Type 0
+MayAnswer command Done = ⊤
+MayAnswer command BadInput = ⊤
+MayAnswer command Limit = ⊤
+MayAnswer command Different = command ≡ inputs.Replay
+MayAnswer command CertRefused = command ≡ inputs.Lrat
+MayAnswer command _ = ⊥
 
-outcome-of : (query : Query) (outcome : Outcome) → MayAnswer query outcome.status → (outcome.status ≢ CertRefused → outcome.kept ≡ Nothing) → IsOutcomeOf query outcome
-outcome-of query outcome may kept =
-    let at_status = λ (status : Status) (is : outcome.status ≡ status). subst (MayAnswer query) is may in
+outcome-of : (command : WholeInput) (outcome : Outcome) → MayAnswer command outcome.status → (outcome.status ≢ CertRefused → outcome.kept ≡ Nothing) → IsOutcomeOf command outcome
+outcome-of command outcome may kept =
+    let at_status = λ (status : Status) (is : outcome.status ≡ status). subst (MayAnswer command) is may in
     record {
       no_usage = at_status _;
       no_read_fault = at_status _;
@@ -41,33 +42,49 @@ outcome-of query outcome may kept =
     }
 
 -- with these nothing is kept
-plain-outcome : (query : Query) (status : Status) → MayAnswer query status → IsOutcomeOf query (record { status = status; kept = Nothing })
-plain-outcome query status may = outcome-of query _ may (λ _. refl)
+plain-outcome : (command : WholeInput) (status : Status) → MayAnswer command status → IsOutcomeOf command (record { status = status; kept = Nothing })
+plain-outcome command status may = outcome-of command _ may (λ _. refl)
 
 -- where the input has too many bytes
-pub limit-outcome : (query : Query) → IsOutcomeOf query (record { status = Limit; kept = Nothing })
-limit-outcome query = plain-outcome query Limit tt
+pub limit-outcome : (command : WholeInput) → IsOutcomeOf command (record { status = Limit; kept = Nothing })
+limit-outcome command = plain-outcome command Limit tt
 
-agreement-outcome : (same : Bool) → IsOutcomeOf queries.Replay (record { status = status_of_agreement same; kept = Nothing })
-agreement-outcome true = plain-outcome queries.Replay Done tt
-agreement-outcome false = plain-outcome queries.Replay Different refl
+agreement-outcome : (same : Bool) → IsOutcomeOf inputs.Replay (record { status = status_of_agreement same; kept = Nothing })
+agreement-outcome true = plain-outcome inputs.Replay Done tt
+agreement-outcome false = plain-outcome inputs.Replay Different refl
 
-pub answer-outcome : (query : Query) (bytes : List ℕ) → IsOutcomeOf query (answer_to query bytes).outcome
-answer-outcome queries.Lrat bytes = elim (verdict_of bytes) as (λ verdict. IsOutcomeOf queries.Lrat (answer_of_verdict verdict).outcome) [
-  | NotText line ↦ plain-outcome queries.Lrat BadInput tt
-  | Refuted ↦ plain-outcome queries.Lrat Done tt
-  | NotRefuted ↦ plain-outcome queries.Lrat CertRefused refl
-  | Bad line cause ↦ outcome-of queries.Lrat _ refl (λ other. absurd (other refl))
+-- that of a function of the bytes
+lrat-outcome : (bytes : List ℕ) → IsOutcomeOf inputs.Lrat (answer_of_verdict (verdict_of bytes)).outcome
+lrat-outcome bytes = elim (verdict_of bytes) as (λ verdict. IsOutcomeOf inputs.Lrat (answer_of_verdict verdict).outcome) [
+  | NotText line ↦ plain-outcome inputs.Lrat BadInput tt
+  | Refuted ↦ plain-outcome inputs.Lrat Done tt
+  | NotRefuted ↦ plain-outcome inputs.Lrat CertRefused refl
+  | Bad line cause ↦ outcome-of inputs.Lrat _ refl (λ other. absurd (other refl))
 ]
-answer-outcome queries.Assemble bytes = elim (assembled bytes) as (λ read. IsOutcomeOf queries.Assemble (coded read).outcome) [
-  | Ok routine ↦ plain-outcome queries.Assemble Done tt
-  | Err fault ↦ plain-outcome queries.Assemble BadInput tt
+
+assemble-outcome : (bytes : List ℕ) → IsOutcomeOf inputs.Assemble (coded (assembled bytes)).outcome
+assemble-outcome bytes = elim (assembled bytes) as (λ read. IsOutcomeOf inputs.Assemble (coded read).outcome) [
+  | Ok routine ↦ plain-outcome inputs.Assemble Done tt
+  | Err fault ↦ plain-outcome inputs.Assemble BadInput tt
 ]
-answer-outcome queries.List bytes = elim (routine_of_codes bytes) as (λ read. IsOutcomeOf queries.List (listed read).outcome) [
-  | Ok routine ↦ plain-outcome queries.List Done tt
-  | Err fault ↦ plain-outcome queries.List BadInput tt
+
+list-outcome : (bytes : List ℕ) → IsOutcomeOf inputs.List (listed (routine_of_codes bytes)).outcome
+list-outcome bytes = elim (routine_of_codes bytes) as (λ read. IsOutcomeOf inputs.List (listed read).outcome) [
+  | Ok routine ↦ plain-outcome inputs.List Done tt
+  | Err fault ↦ plain-outcome inputs.List BadInput tt
 ]
-answer-outcome queries.Replay bytes = elim (replay_input bytes) as (λ input. IsOutcomeOf queries.Replay (replayed input).outcome) [
+
+replay-outcome : (bytes : List ℕ) → IsOutcomeOf inputs.Replay (replayed (replay_input bytes)).outcome
+replay-outcome bytes = elim (replay_input bytes) as (λ input. IsOutcomeOf inputs.Replay (replayed input).outcome) [
   | Ok (p, s) ↦ agreement-outcome (agree p s)
-  | Err line ↦ plain-outcome queries.Replay BadInput tt
+  | Err line ↦ plain-outcome inputs.Replay BadInput tt
 ]
+
+at-answer : (command : WholeInput) (answer due : Answer) → answer ≡ due → IsOutcomeOf command due.outcome → IsOutcomeOf command answer.outcome
+at-answer command answer due is outcome = subst (λ (a : Answer). IsOutcomeOf command a.outcome) (sym is) outcome
+
+pub answer-outcome : (command : WholeInput) (bytes : List ℕ) (answer : Answer) → Answers command bytes answer → IsOutcomeOf command answer.outcome
+answer-outcome inputs.Lrat bytes answer is = at-answer inputs.Lrat answer _ is (lrat-outcome bytes)
+answer-outcome inputs.Assemble bytes answer is = at-answer inputs.Assemble answer _ is (assemble-outcome bytes)
+answer-outcome inputs.List bytes answer is = at-answer inputs.List answer _ is (list-outcome bytes)
+answer-outcome inputs.Replay bytes answer is = at-answer inputs.Replay answer _ is (replay-outcome bytes)

@@ -9,8 +9,8 @@ use Rattle.hp_model.specs.Session as ends
 use Rattle.hp_session.specs.Steps.{shown}
 use Rattle.hp_session.specs.Ends.{session_so_far, BeforeLastRead, WasRefused, WasCutOff}
 use Rattle.hp16c_commands.specs.declared.outcomes.Status.{Status}
-use Rattle.hp16c_commands.specs.declared.outcomes.Status.TheVariants.{BadInput, Limit, ReadFault, WriteFault}
-use Rattle.hp16c_commands.specs.Keys.{WasAnswered, WasCut, IfAnswer, TakenTo, keys_text, last_words, status_of_end}
+use Rattle.hp16c_commands.specs.declared.outcomes.Status.TheVariants.{Done, Different, Usage, BadInput, Limit, ReadFault, WriteFault, NoMemory, CertRefused}
+use Rattle.hp16c_commands.specs.Keys.{WasAnswered, WasCut, IfAnswer, KeysTold, TakenTo, keys_status, keys_text, last_words, status_of_end}
 
 -- where the status is the answer, the last line was written
 pub written_whole : {T E A : Type 0} (r : Result T E) (answer result : Status) → result ≡ (if is_ok r then answer else WriteFault) → answer ≢ WriteFault → result ≡ answer → OnOk r A → A
@@ -85,3 +85,20 @@ pub told_whole : {T E : Type 0} (r : Result T E) (answer result : Status) (l w0 
     → IfSome l (λ bytes. IfAnswer result (Appends w0 w2 (keys_text bytes)))
 told_whole (Ok _) answer result l w0 w1 w2 end is told text put = all_answers l result _ (told_text l w0 w1 w2 end told text put)
 told_whole (Err _) answer result l w0 w1 w2 end is told text put = no_answer l result _ is
+
+-- the status and the text of told bytes, as one fact
+pub told_both : (l w0 w1 : Option (List ℕ)) (status : Status) → IfSome l (λ bytes. IfAnswer status (status ≡ keys_status bytes))
+    → IfSome l (λ bytes. IfAnswer status (Appends w0 w1 (keys_text bytes))) → IfSome l (λ bytes. IfAnswer status (KeysTold status bytes w0 w1))
+told_both None w0 w1 status is put = tt
+told_both (Some bytes) w0 w1 status is put = both status is put
+  where
+    both : (s : Status) → IfAnswer s (status ≡ keys_status bytes) → IfAnswer s (Appends w0 w1 (keys_text bytes)) → IfAnswer s (KeysTold status bytes w0 w1)
+    both ReadFault is put = tt
+    both WriteFault is put = tt
+    both Done is put = record { status_is = is; put = put }
+    both Different is put = record { status_is = is; put = put }
+    both Usage is put = record { status_is = is; put = put }
+    both BadInput is put = record { status_is = is; put = put }
+    both Limit is put = record { status_is = is; put = put }
+    both NoMemory is put = record { status_is = is; put = put }
+    both CertRefused is put = record { status_is = is; put = put }

@@ -2,7 +2,7 @@
 use Rattle.std.proofs.Common.{◌≡◌, ℕ, suc, ◌+◌, ◌≤◌, ◌==◌, Bool, true, false, List, [], ◌∷◌, drop, take, length, sym, ap, ◌∙◌, arith}
 use Rattle.std.specs.Prelude.{Result, Ok, Err}
 use Rattle.hp_model.specs.State.{Data}
-use Rattle.jd_logic.specs.Words.{put, pieces, lines_of, bytes_of_lines}
+use Rattle.jd_text.specs.Lines.{put, pieces, lines_of, bytes_of_lines}
 use Rattle.jd_model.specs.declared.causes.ProblemCause.{ProblemCause}
 use Rattle.jd_model.specs.Problems.{Problem}
 use Rattle.jd_model.specs.ProblemTexts.{problem_of}

@@ -4,7 +4,7 @@ use Rattle.std.specs.Io.KnownBytes.{Appends, Consumes, IsAtEnd}
 use Rattle.hp_model.specs.Session.{SessionEnd, session, byte_limit}
 use Rattle.hp_model.specs.Session as ends
 use Rattle.hp_session.specs.Steps.{shown}
-use Rattle.hp_session.specs.Ends.{session_so_far, BeforeLastRead}
+use Rattle.hp_session.specs.Ends.{session_so_far, BeforeLastRead, WasStopped}
 use Rattle.hp16c_commands.specs.declared.outcomes.Status.{Status}
 use Rattle.hp16c_commands.specs.declared.outcomes.Status.TheVariants.{Done, BadInput, Limit, ReadFault, WriteFault}
 use Rattle.hp16c_commands.specs.Refusals as refusals
@@ -59,3 +59,17 @@ pub record WasCut (left0 left written0 written : Option (List ℕ)) : Type 0 whe
   pub last : BeforeLastRead left taken before
   pub whole_before : session_so_far before ≡ shown lines
   pub due : keys_text taken ≡ lines ++ part ++ left_out
+
+-- what was written, status by status. `keys` ends with no other
+abbrev pub KeysDid : Status → Option (List ℕ) → Option (List ℕ) → Option (List ℕ) → Option (List ℕ) → Type 0
+KeysDid Done left0 left written0 written = WasAnswered Done left0 left written0 written
+KeysDid BadInput left0 left written0 written = WasAnswered BadInput left0 left written0 written
+KeysDid Limit left0 left written0 written = WasAnswered Limit left0 left written0 written
+KeysDid ReadFault left0 left written0 written = WasStopped left0 left written0 written
+KeysDid WriteFault left0 left written0 written = WasCut left0 left written0 written
+KeysDid _ left0 left written0 written = ⊥
+
+-- the answer to bytes that the source told
+pub record KeysTold (status : Status) (bytes : List ℕ) (written0 written : Option (List ℕ)) : Type 0 where
+  pub status_is : status ≡ keys_status bytes
+  pub put : Appends written0 written (keys_text bytes)

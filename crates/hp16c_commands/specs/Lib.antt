@@ -7,4 +7,4 @@ pub mod Lrat
 pub mod Assemble
 pub mod List
 pub mod Replay
-pub mod Queries
+pub mod WholeInputs

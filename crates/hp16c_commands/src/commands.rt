@@ -3,7 +3,7 @@ ghost use Rattle.std.specs.Prelude.{◌≡◌, map};
 ghost use Rattle.std.specs.String.{string_bytes};
 ghost use Rattle.hp16c_commands.specs.Commands.{command_of};
 
-use crate::queries::Query;
+use crate::whole_inputs::WholeInput;
 
 /// The commands.
 #[derive(Clone, Copy, Debug, PartialEq, Eq)]
@@ -11,7 +11,7 @@ pub enum Command {
     /// Presses the keys of a key file, and writes the display of each line.
     Keys,
     /// Reads the whole input, and writes the answer.
-    Ask(Query),
+    Read(WholeInput),
 }
 
 impl Command {
@@ -21,10 +21,10 @@ impl Command {
     {
         match words {
             [word] if word.as_str() == "keys" => Some(Command::Keys),
-            [word] if word.as_str() == "lrat" => Some(Command::Ask(Query::Lrat)),
-            [word] if word.as_str() == "asm" => Some(Command::Ask(Query::Assemble)),
-            [word] if word.as_str() == "list" => Some(Command::Ask(Query::List)),
-            [word] if word.as_str() == "replay" => Some(Command::Ask(Query::Replay)),
+            [word] if word.as_str() == "lrat" => Some(Command::Read(WholeInput::Lrat)),
+            [word] if word.as_str() == "asm" => Some(Command::Read(WholeInput::Assemble)),
+            [word] if word.as_str() == "list" => Some(Command::Read(WholeInput::List)),
+            [word] if word.as_str() == "replay" => Some(Command::Read(WholeInput::Replay)),
             _ => None,
         }
     }

@@ -1,23 +1,22 @@
-//! The commands of the program hp16c, and the call that does the one that the words name.
+//! The commands of the program hp16c, and the call that does the one that the words name. `keys` reads
+//! and writes line by line; every other command reads its whole input first, and all of these have one
+//! form: a limit, what an answer to some bytes is, and a function that finds one.
+//!
+//! - Doing what the words say: `hp16c`, which gives an `Outcome` of a `Status` and what is `Kept`.
 #![tactic(auto)]
 
 mod answers;
-mod calls;
 mod commands;
 mod key_files;
+mod lrat;
 mod outcomes;
-#[cfg(test)]
-mod problem_tests;
-mod proof_files;
-mod queries;
 mod refusals;
 mod replays;
 mod routines;
-#[cfg(test)]
-mod tests;
+mod top_call;
+mod whole_inputs;
 
-pub use calls::hp16c;
 pub use commands::Command;
-pub use key_files::keys;
 pub use outcomes::{Kept, Outcome, Status};
-pub use queries::{Query, ask};
+pub use top_call::hp16c;
+pub use whole_inputs::WholeInput;

@@ -1,4 +1,4 @@
-// The query `replay`.
+// The command `replay`.
 ghost use Rattle.std.specs.Prelude.{◌≡◌, ◌+◌, ◌<◌, ◌≤◌, ◌^◌, length, true, Ok, Err, IfOk, IfErr};
 ghost use Rattle.jd_model.specs.Problems.{allows};
 ghost use Rattle.jd_model.specs.Replays.{replay_input, replay_text, verdict};
@@ -7,12 +7,12 @@ ghost use Rattle.jd_problem.specs.Problems.{problem_of};
 ghost use Rattle.jd_problem.specs.ProblemTexts.{IsProblemTo};
 ghost use Rattle.jd_start.specs.Starts.{start_data};
 ghost use Rattle.hp16c_commands.specs.Answers.{told};
-ghost use Rattle.hp16c_commands.specs.Queries.{limit_of};
+ghost use Rattle.hp16c_commands.specs.WholeInputs.{limit_of};
 ghost use Rattle.hp16c_commands.specs.Replay.{status_of_agreement, replay_answer};
 
 use crate::answers::Answer;
 use crate::outcomes::Status;
-use crate::queries::Query;
+use crate::whole_inputs::WholeInput;
 use hp_io::Bytes;
 use jd_problem::{Problem, Start, read_problem, read_start};
 use jd_replay::{agree, replay, seen_text};
@@ -85,7 +85,7 @@ fn replay_from(alloc: Global, problem: &Problem, start: &Start) -> Result<Answer
 
 /// A replay of the start that follows a problem, for the bytes of both.
 pub fn replay_start(alloc: Global, bytes: &Bytes) -> Result<Answer, AllocError>
-    requires { length bytes.now ≤ limit_of Query.Replay }
+    requires { length bytes.now ≤ limit_of WholeInput.Replay }
     ensures { IfOk result (λ answer. answer ≡ replay_answer bytes.now) }
 {
     match read_input(bytes.as_slice()) {

@@ -1,5 +1,8 @@
-//! Arithmetic on words: sums, products, quotients, signs and roots, with the flags that they set, as
-//! the HP-16C Owner's Handbook has them.
+//! Arithmetic on words, with the flags that it sets, as the HP-16C Owner's Handbook has it. Two
+//! words are always of one size and read in one mode.
+//!
+//! - of two words: `add`, `sub`, `mul`, `div`, `rmd`
+//! - of one word: `chs`, `abs`, `root`
 #![tactic(auto)]
 
 mod products;

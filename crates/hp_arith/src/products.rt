@@ -1,8 +1,10 @@
-// Multiplication.
+// Multiplication. An unsigned product of 64 bits fits no `i128`, so the unsigned mode goes by
+// itself.
 ghost use Rattle.std.specs.Prelude.{◌≡◌, ◌≢◌, ◌^◌, ◌≤◌, ◌*ℤ◌, nat_abs};
 ghost use Rattle.hp_model.specs.declared.Mode.{Mode};
 ghost use Rattle.hp_model.specs.Words.{value};
-ghost use Rattle.hp_model.specs.Rows.{product_of};
+ghost use Rattle.hp_model.specs.WordOperations.{product_of};
+ghost use Rattle.hp_words.specs.Alike.{AreAlike};
 
 use crate::signs::ranged;
 use hp_words::{Answer, Mode, Word};
@@ -27,8 +29,7 @@ fn product(y: i128, x: i128) -> i128
 
 /// y times x.
 pub fn mul(y: Word, x: Word) -> Answer
-    requires same_size { y.size.bits ≡ x.size.bits }
-    requires same_mode { y.mode ≡ x.mode }
+    requires alike { AreAlike y x }
     ensures { result ≡ product_of x.size.bits x.mode y.pattern x.pattern }
 {
     match x.mode {

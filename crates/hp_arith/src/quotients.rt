@@ -1,7 +1,8 @@
-// Division.
+// Division, for a quotient and for its remainder: what both share is done once.
 ghost use Rattle.std.specs.Prelude.{◌≡◌, ◌≢◌, ◌^◌, ◌<◌, ◌↔◌, nat_abs, int_div, pos, IfOk, IsErr};
 ghost use Rattle.hp_model.specs.Words.{value};
-ghost use Rattle.hp_model.specs.Rows.{quotient_of, remainder_of, rest_of};
+ghost use Rattle.hp_model.specs.WordOperations.{quotient_of, remainder_of, rest_of};
+ghost use Rattle.hp_words.specs.Alike.{AreAlike};
 
 use hp_words::{Answer, Error0, Word, fits, low};
 
@@ -30,11 +31,13 @@ struct Division {
     rest: i128,
 }
 
+// y divided by x, and Error 0 where x is 0.
 fn divide(y: Word, x: Word) -> Result<Division, Error0>
-    requires same_size { y.size.bits ≡ x.size.bits }
-    requires same_mode { y.mode ≡ x.mode }
-    ensures quotient { IfOk result (λ d. d.quotient ≡ int_div (value x.size.bits x.mode y.pattern) (value x.size.bits x.mode x.pattern)) }
-    ensures rest { IfOk result (λ d. d.rest ≡ rest_of (value x.size.bits x.mode y.pattern) (value x.size.bits x.mode x.pattern)) }
+    requires alike { AreAlike y x }
+    ensures quotient { IfOk result (λ d. d.quotient
+        ≡ int_div (value x.size.bits x.mode y.pattern) (value x.size.bits x.mode x.pattern)) }
+    ensures rest { IfOk result (λ d. d.rest
+        ≡ rest_of (value x.size.bits x.mode y.pattern) (value x.size.bits x.mode x.pattern)) }
     ensures refused { IsErr result ↔ (value x.size.bits x.mode x.pattern ≡ pos 0) }
 {
     let dividend = y.value();
@@ -50,8 +53,7 @@ fn divide(y: Word, x: Word) -> Result<Division, Error0>
 
 /// y divided by x, cut towards 0. The carry is set where a remainder is left.
 pub fn div(y: Word, x: Word) -> Result<Answer, Error0>
-    requires same_size { y.size.bits ≡ x.size.bits }
-    requires same_mode { y.mode ≡ x.mode }
+    requires alike { AreAlike y x }
     ensures ok { IfOk result (λ a. a ≡ quotient_of x.size.bits x.mode y.pattern x.pattern) }
     ensures refused { IsErr result ↔ (value x.size.bits x.mode x.pattern ≡ pos 0) }
 {
@@ -65,8 +67,7 @@ pub fn div(y: Word, x: Word) -> Result<Answer, Error0>
 
 /// The remainder of y divided by x, which has the sign of y.
 pub fn rmd(y: Word, x: Word) -> Result<Answer, Error0>
-    requires same_size { y.size.bits ≡ x.size.bits }
-    requires same_mode { y.mode ≡ x.mode }
+    requires alike { AreAlike y x }
     ensures ok { IfOk result (λ a. a ≡ remainder_of x.size.bits x.mode y.pattern x.pattern) }
     ensures refused { IsErr result ↔ (value x.size.bits x.mode x.pattern ≡ pos 0) }
 {

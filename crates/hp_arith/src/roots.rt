@@ -1,7 +1,7 @@
-// Square roots.
+// Square roots, which only words that aren't negative have.
 ghost use Rattle.std.specs.Prelude.{◌≡◌, ◌+◌, ◌*◌, ◌<◌, ◌≤◌, ◌<ℤ◌, ◌↔◌, pos, IfOk, IsErr};
 ghost use Rattle.hp_model.specs.Words.{value, magnitude};
-ghost use Rattle.hp_model.specs.Rows.{root as root_value, root_of};
+ghost use Rattle.hp_model.specs.WordOperations.{root as root_value, root_of};
 
 use hp_words::{Answer, Error0, Word};
 

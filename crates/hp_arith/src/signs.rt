@@ -1,7 +1,8 @@
-// Change of sign, and absolute values.
+// Change of sign, and absolute values: a number given back to a word, out of range where it doesn't
+// fit.
 ghost use Rattle.std.specs.Prelude.{◌≡◌, ◌^◌, ◌<◌, neg_ℤ};
 ghost use Rattle.hp_model.specs.Words.{value};
-ghost use Rattle.hp_model.specs.Rows.{ranged as ranged_of, negation_of, negation_pattern as negation_pattern_of, absolute_of};
+ghost use Rattle.hp_model.specs.WordOperations.{ranged as ranged_of, negation_of, negation_pattern as negation_pattern_of, absolute_of};
 
 use hp_words::{Answer, Mode, Word, WordSize, fits, low};
 

@@ -1,7 +1,9 @@
-// Addition and subtraction.
+// Addition and subtraction: the pattern and the carry come of the patterns, the range of the
+// values.
 ghost use Rattle.std.specs.Prelude.{◌≡◌, ◌^◌, ◌<◌, ◌+ℤ◌, ◌-ℤ◌};
 ghost use Rattle.hp_model.specs.Words.{value};
-ghost use Rattle.hp_model.specs.Rows.{sum_of, sum_pattern as sum_pattern_of, difference_of, difference_pattern as difference_pattern_of};
+ghost use Rattle.hp_model.specs.WordOperations.{sum_of, sum_pattern as sum_pattern_of, difference_of, difference_pattern as difference_pattern_of};
+ghost use Rattle.hp_words.specs.Alike.{AreAlike};
 
 use hp_words::{Answer, Mode, Word, WordSize, fits};
 
@@ -27,18 +29,16 @@ fn sum_pattern(size: WordSize, mode: Mode, y: u64, x: u64) -> u64
 
 // The sum of two values.
 fn sum_value(y: Word, x: Word) -> i128
-    requires same_size { y.size.bits ≡ x.size.bits }
-    requires same_mode { y.mode ≡ x.mode }
+    requires alike { AreAlike y x }
     ensures { result ≡ value x.size.bits x.mode y.pattern +ℤ value x.size.bits x.mode x.pattern }
 {
     y.value() + x.value()
 }
 
-/// y + x. The carry is set where the sum of the patterns passes the word. In one's complement it comes
-/// around.
+/// y + x. The carry is set where the sum of the patterns passes the word. In one's complement it
+/// comes around.
 pub fn add(y: Word, x: Word) -> Answer
-    requires same_size { y.size.bits ≡ x.size.bits }
-    requires same_mode { y.mode ≡ x.mode }
+    requires alike { AreAlike y x }
     ensures { result ≡ sum_of x.size.bits x.mode y.pattern x.pattern }
 {
     let carry = x.size.patterns() <= y.pattern as u128 + x.pattern as u128;
@@ -66,8 +66,7 @@ fn difference_pattern(size: WordSize, mode: Mode, y: u64, x: u64) -> u64
 
 // The difference of two values.
 fn difference_value(y: Word, x: Word) -> i128
-    requires same_size { y.size.bits ≡ x.size.bits }
-    requires same_mode { y.mode ≡ x.mode }
+    requires alike { AreAlike y x }
     ensures { result ≡ value x.size.bits x.mode y.pattern -ℤ value x.size.bits x.mode x.pattern }
 {
     y.value() - x.value()
@@ -75,8 +74,7 @@ fn difference_value(y: Word, x: Word) -> i128
 
 /// y - x. The carry is set where a borrow passes the word. In one's complement it comes around.
 pub fn sub(y: Word, x: Word) -> Answer
-    requires same_size { y.size.bits ≡ x.size.bits }
-    requires same_mode { y.mode ≡ x.mode }
+    requires alike { AreAlike y x }
     ensures { result ≡ difference_of x.size.bits x.mode y.pattern x.pattern }
 {
     let difference = difference_value(y, x);

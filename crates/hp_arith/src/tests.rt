@@ -1,5 +1,6 @@
-// Worked rows of every call.
+// Worked rows of each call, one table for all.
 ghost use Rattle.std.specs.Prelude.{◌≡◌};
+ghost use Rattle.hp_words.specs.Alike.{AreAlike};
 
 use crate::{abs, add, chs, div, mul, rmd, root, sub};
 use Call::{Abs, Add, Chs, Div, Mul, Rmd, Root, Sub};
@@ -19,8 +20,7 @@ enum Call {
 }
 
 fn done(call: Call, y: Word, x: Word) -> Result<Answer, Error0>
-    requires same_size { y.size.bits ≡ x.size.bits }
-    requires same_mode { y.mode ≡ x.mode }
+    requires alike { AreAlike y x }
 {
     match call {
         Add => Ok(add(y, x)),

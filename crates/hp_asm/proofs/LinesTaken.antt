@@ -1,7 +1,7 @@
 -- A line of assembly whose first word begins an operation's text.
 use Rattle.std.proofs.Common.{◌≡◌, ℕ, Bool, true, false, List, ◌∷◌, refl, sym, ap, ◌∙◌, arith}
 use Rattle.std.specs.Prelude.{Result, Err}
-use Rattle.jd_logic.specs.Words.{words_of}
+use Rattle.jd_text.specs.Words.{words_of}
 use Rattle.jd_text.specs.Places.{words_at, IsWordTo}
 use Rattle.jd_model.specs.declared.causes.AsmCause.{AsmCause}
 use Rattle.jd_model.specs.declared.causes.AsmCause.TheVariants.{UnknownWord, FloatKey}

@@ -2,7 +2,7 @@
 use Rattle.std.proofs.Common.{◌≡◌, ℕ, ◌+◌, ◌-◌, ◌<◌, ◌≤◌, Bool, true, false, List, Option, Some, None, is_some, arith, sym, ap, ◌∙◌}
 use Rattle.hp_model.specs.Lists.{first_from}
 use Rattle.hp_model.proofs.FirstFrom.{first_from-here, first_from-next}
-use Rattle.jd_logic.specs.Words.{words_of, is_text}
+use Rattle.jd_text.specs.Words.{words_of, is_text}
 use Rattle.jd_text.specs.Places.{IsWordTo}
 use Rattle.jd_model.specs.Assembly.{is_first}
 

@@ -1,7 +1,9 @@
-// Assembly texts.
-ghost use Rattle.std.specs.Prelude.{◌≡◌, ◌+◌, ◌<◌, ◌≤◌, ◌^◌, ◌∷◌, [], ◌++◌, length, Ok, Err, OnOk, OnErr, IfOk, IfErr};
+//! Assembly texts, read line by line into a routine and written back. A line's operation is found
+//! in `operations`; a text's lines come from `jd_readers`.
+ghost use Rattle.std.specs.Prelude.{◌≡◌, ◌+◌, ◌<◌, ◌≤◌, ◌^◌, ◌∷◌, [], ◌++◌, length, Ok, Err, OnErr, IfOk, IfErr};
 ghost use Rattle.arrayvec.specs.ArrayString.{array_string_len};
-ghost use Rattle.jd_logic.specs.Words.{words_of};
+ghost use Rattle.jd_text.specs.Words.{words_of};
+ghost use Rattle.jd_text.specs.Readings.{Takes};
 ghost use Rattle.jd_model.specs.Assembly.{IsRoutine, text_of_code, with_operation, with_line, assembled, listing};
 
 use crate::faults::AsmFault;
@@ -14,8 +16,7 @@ use jd_text::next_word;
 
 /// Adds the operation that a line is, whatever its first word.
 fn take_operation(routine: &mut Routine, line: &[u8]) -> Result<(), AsmCause>
-    ensures taken { OnOk result (with_operation routine.old (words_of line.now) ≡ Ok routine.new) }
-    ensures cause { IfErr result (λ cause. with_operation routine.old (words_of line.now) ≡ Err cause) }
+    ensures takes { Takes (with_operation routine.old (words_of line.now)) result routine.new }
     ensures unchanged { OnErr result (routine.new ≡ routine.old) }
 {
     match code_of(line) {
@@ -33,8 +34,7 @@ fn take_operation(routine: &mut Routine, line: &[u8]) -> Result<(), AsmCause>
 /// Adds the operation of one line of assembly, which has no line feed. A line without words adds
 /// nothing.
 pub fn take_line(routine: &mut Routine, line: &[u8]) -> Result<(), AsmCause>
-    ensures taken { OnOk result (with_line routine.old (words_of line.now) ≡ Ok routine.new) }
-    ensures cause { IfErr result (λ cause. with_line routine.old (words_of line.now) ≡ Err cause) }
+    ensures takes { Takes (with_line routine.old (words_of line.now)) result routine.new }
     ensures unchanged { OnErr result (routine.new ≡ routine.old) }
 {
     match next_word(line, 0) {

@@ -1,6 +1,7 @@
-// Texts of codes.
-ghost use Rattle.std.specs.Prelude.{◌≡◌, ◌+◌, ◌*◌, ◌<◌, ◌≤◌, ◌^◌, ◌∷◌, [], ◌++◌, length, Ok, Err, OnOk, OnErr, IfSome, IfOk, IfErr};
+//! Texts of codes, two hexadecimal digits each, read into a routine and written back.
+ghost use Rattle.std.specs.Prelude.{◌≡◌, ◌+◌, ◌*◌, ◌<◌, ◌≤◌, ◌^◌, ◌∷◌, [], ◌++◌, length, Ok, Err, IfSome, IfOk, IfErr};
 ghost use Rattle.arrayvec.specs.ArrayString.{array_string_len};
+ghost use Rattle.jd_text.specs.Readings.{Takes};
 ghost use Rattle.jd_model.specs.Assembly.{code_of_digits, code_of_word, with_code, routine_of_codes, code_text, codes_text};
 ghost use Rattle.hp_asm.specs.Separated.{after};
 
@@ -38,8 +39,7 @@ fn code_of(word: &[u8]) -> Option<u8>
 
 /// Adds the code that a word is. An `Err` where it is none or one too many.
 fn take_code(routine: &mut Routine, word: &[u8]) -> Result<(), ()>
-    ensures taken { OnOk result (with_code routine.old word.now ≡ Ok routine.new) }
-    ensures refused { OnErr result (with_code routine.old word.now ≡ Err tt) }
+    ensures { Takes (with_code routine.old word.now) result routine.new }
 {
     match code_of(word) {
         None => Err(()),

@@ -1,5 +1,9 @@
 //! Routines of the machine as text: assembly, with one operation a line, and codes, two hexadecimal
 //! digits each. Nothing here takes memory.
+//!
+//! - Assembly: `assemble` a text, `take_line` for one line, `list` a routine.
+//! - Codes: `read_codes`, `codes`.
+//! - Values: `Routine`; the faults `AsmFault` with its `AsmCause`, and `CodeFault`.
 #![tactic(auto)]
 
 mod assembly;

@@ -1,12 +1,12 @@
-// The operation that a line of assembly is.
+//! The operation that a line of assembly is, found among the texts of all codes, so that the table
+//! of texts stands once, in `hp_ops`.
 ghost use Rattle.std.specs.Prelude.{◌≡◌, ◌<◌, ◌≤◌, length, IfSome};
-ghost use Rattle.jd_logic.specs.Words.{words_of, is_text};
-ghost use Rattle.jd_model.specs.Texts.{are_texts};
+ghost use Rattle.jd_text.specs.Words.{words_of, are_texts};
 ghost use Rattle.jd_model.specs.Assembly.{text_of_code, is_code_text, code_of_words, begins_code, begins_text, is_float_key};
 
 use arrayvec::ArrayString;
 use hp_ops::Op;
-use jd_text::next_word;
+use jd_text::{is_text, next_word};
 
 /// How many codes there are.
 const CODES: u8 = 225;
@@ -17,13 +17,6 @@ pub fn text_of(code: u8) -> ArrayString<16>
     ensures { result.bytes ≡ text_of_code code }
 {
     Op::of_code(code).unwrap().text()
-}
-
-/// Whether a word is this text.
-fn is_text(text: &[u8], word: &[u8]) -> bool
-    ensures { result ≡ is_text text.now word.now }
-{
-    text == word
 }
 
 /// Whether the words of a line are those of a text.

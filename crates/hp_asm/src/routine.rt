@@ -1,4 +1,4 @@
-// Routines.
+//! Routines as values: codes in fixed room, whose range every reader keeps.
 ghost use Rattle.std.specs.Prelude.{◌≡◌, ◌<◌, ◌≤◌, [], ◌∷◌, ◌++◌, ◌==◌, length};
 ghost use Rattle.jd_model.specs.Assembly.{IsRoutine};
 

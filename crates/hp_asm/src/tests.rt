@@ -1,4 +1,4 @@
-// Texts and codes of routines, and the first bad line.
+//! Texts and codes of routines, and the first bad line.
 use crate::{AsmCause, AsmFault, CodeFault, assemble, codes, list, read_codes};
 use std::test::Fail;
 

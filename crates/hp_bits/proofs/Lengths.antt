@@ -4,7 +4,7 @@ use Rattle.std.proofs.Math.Nat.{pow-suc, pow-le-pow_right}
 use Rattle.std.proofs.lemmas.Nat.{mod-pow-add, ones_cat, mod_below, pow_pos, leading_top, shl_below}
 use Rattle.std.proofs.lemmas.Bool.Decides.{nat_tests}
 use lib.Count.{ones, ones-ones, count_leading_zeros}
-use Rattle.hp_model.specs.Rows.{bit_number, binary_length, left_shifts, ones_below}
+use Rattle.hp_model.specs.WordOperations.{bit_number, binary_length, left_shifts, ones_below}
 
 below_tells : (a b : ℕ) → nat_lt a b ≡ true → a < b
 below_tells a b e = grind (arith, nat_tests)

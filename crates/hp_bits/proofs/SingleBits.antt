@@ -4,7 +4,7 @@ use Rattle.std.proofs.lemmas.Nat.{or_block, and_block, and-not, and_comm, and_ma
 use Rattle.std.specs.Int.Bits.{or_zero_r, and_zero_l}
 use Rattle.std.proofs.lemmas.Bool.Decides.{nat_tests}
 use Rattle.hp_model.specs.Words.{bit}
-use Rattle.hp_model.specs.Rows.{with_bit, without_bit}
+use Rattle.hp_model.specs.WordOperations.{with_bit, without_bit}
 
 one_or : (b : ℕ) → b < 2 → bit_or b 1 ≡ 1
 one_or zero small = refl

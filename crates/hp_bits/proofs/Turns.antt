@@ -7,7 +7,7 @@ use Rattle.hp_model.specs.Words.{bit}
 use Rattle.hp_model.specs.Operations.{Rotation}
 use Rattle.hp_model.specs.Operations as ops
 use Rattle.hp_model.specs.declared.Answer.{Answer}
-use Rattle.hp_model.specs.Rows.{plain, bit_number, top_bit, turned, turned_times, rotated_times_of}
+use Rattle.hp_model.specs.WordOperations.{plain, bit_number, top_bit, turned, turned_times, rotated_times_of}
 use Rattle.hp_bits.specs.Places.{moved_round}
 use Rattle.hp_bits.proofs.Rounds.{moved_right, right_is, round_none, step_left, step_right}
 

@@ -1,4 +1,4 @@
-// Counts and places that a word gives by its magnitude.
+// Counts and numbers of bits that a word gives by its magnitude, which is to be small enough.
 ghost use Rattle.std.specs.Prelude.{◌≡◌, ◌<◌, ◌≤◌, ◌↔◌, IsErr, IfOk};
 ghost use Rattle.hp_model.specs.Words.{magnitude};
 
@@ -10,7 +10,7 @@ use thiserror::Error;
 #[error("Error 2")]
 pub struct Error2;
 
-/// The magnitude of a word, which is to be at most so much.
+// The magnitude of a word, which is to be at most so much.
 fn magnitude_within(x: Word, most: u8) -> Result<u8, Error2>
     ensures refused { IsErr result ↔ (most < magnitude x.size.bits x.mode x.pattern) }
     ensures value { IfOk result (λ n. n ≡ magnitude x.size.bits x.mode x.pattern) }

@@ -1,6 +1,7 @@
-// All bits of words at once.
+// All bits of words at once. The mode plays no part, and no flag is set.
 ghost use Rattle.std.specs.Prelude.{◌≡◌, ◌+◌, ◌-◌, ◌*◌, ◌^◌, ◌<◌, ◌≤◌, bit_and, bit_or, bit_xor};
-ghost use Rattle.hp_model.specs.Rows.{left_shifts, ones_below};
+ghost use Rattle.hp_model.specs.WordOperations.{left_shifts, ones_below};
+ghost use Rattle.hp_words.specs.Alike.{AreAlike};
 
 use hp_words::Word;
 
@@ -36,8 +37,7 @@ pub fn not(x: Word) -> u64
 
 /// The bits that are 1 in both.
 pub fn and(y: Word, x: Word) -> u64
-    requires same_size { y.size.bits ≡ x.size.bits }
-    requires same_mode { y.mode ≡ x.mode }
+    requires alike { AreAlike y x }
     ensures value { result ≡ bit_and y.pattern x.pattern }
     ensures bound { result < 2 ^ x.size.bits }
 {
@@ -46,8 +46,7 @@ pub fn and(y: Word, x: Word) -> u64
 
 /// The bits that are 1 in one or both.
 pub fn or(y: Word, x: Word) -> u64
-    requires same_size { y.size.bits ≡ x.size.bits }
-    requires same_mode { y.mode ≡ x.mode }
+    requires alike { AreAlike y x }
     ensures value { result ≡ bit_or y.pattern x.pattern }
     ensures bound { result < 2 ^ x.size.bits }
 {
@@ -56,8 +55,7 @@ pub fn or(y: Word, x: Word) -> u64
 
 /// The bits that are 1 in exactly one.
 pub fn xor(y: Word, x: Word) -> u64
-    requires same_size { y.size.bits ≡ x.size.bits }
-    requires same_mode { y.mode ≡ x.mode }
+    requires alike { AreAlike y x }
     ensures value { result ≡ bit_xor y.pattern x.pattern }
     ensures bound { result < 2 ^ x.size.bits }
 {

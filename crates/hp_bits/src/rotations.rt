@@ -1,14 +1,16 @@
-// Rotations by a count, in one step each: n places to the left bring the n upper bits to the low end.
+// Rotations by a count, in one step each: n places to the left bring the n upper bits to the low
+// end.
 ghost use Rattle.std.specs.Prelude.{◌≡◌, ◌+◌, ◌-◌, ◌*◌, ◌^◌, ◌<◌, ◌≤◌, ◌↔◌, ◌==◌, Bool, Some, None, if◌then◌else◌, IsErr, IfOk};
 ghost use Rattle.hp_model.specs.Words.{magnitude};
 ghost use Rattle.hp_model.specs.Operations.{left, right, left_carry, right_carry};
-ghost use Rattle.hp_model.specs.Rows.{rotated_times_of, bit_number};
+ghost use Rattle.hp_model.specs.WordOperations.{rotated_times_of, bit_number};
 ghost use Rattle.hp_bits.specs.Places.{moved_round};
+ghost use Rattle.hp_words.specs.Alike.{AreAlike};
 
 use crate::counts::{Error2, count_in};
 use hp_words::{Answer, Word};
 
-/// A number of so many bits after n places to the left.
+// A number of so many bits after n places to the left.
 fn moved_round(number: u128, bits: u8, n: u8) -> u128
     requires few { bits ≤ 65 }
     requires inside { number < 2 ^ bits }
@@ -21,9 +23,13 @@ fn moved_round(number: u128, bits: u8, n: u8) -> u128
     (lower << n) + (number >> low)
 }
 
-/// The answer of n rotations. The carry stays where there is none.
+// The answer of n rotations. The carry stays where there is none.
 fn after(n: u8, pattern: u64, carry: bool) -> Answer
-    ensures { result ≡ record { pattern = pattern; carry = (if n == 0 then None else Some carry); range = None } }
+    ensures { result ≡ record {
+      pattern = pattern;
+      carry = (if n == 0 then None else Some carry);
+      range = None;
+    } }
 {
     let carry = if n == 0 { None } else { Some(carry) };
     Answer {
@@ -33,6 +39,7 @@ fn after(n: u8, pattern: u64, carry: bool) -> Answer
     }
 }
 
+// n rotations to the left.
 fn turn_left(y: Word, n: u8) -> Answer
     requires { n ≤ y.size.bits }
     ensures value { (carry : Bool) → result ≡ rotated_times_of left y.size.bits n y.pattern carry }
@@ -42,6 +49,7 @@ fn turn_left(y: Word, n: u8) -> Answer
     after(n, pattern, pattern & 1 == 1)
 }
 
+// n rotations to the right.
 fn turn_right(y: Word, n: u8) -> Answer
     requires { n ≤ y.size.bits }
     ensures value { (carry : Bool) → result ≡ rotated_times_of right y.size.bits n y.pattern carry }
@@ -51,7 +59,7 @@ fn turn_right(y: Word, n: u8) -> Answer
     after(n, pattern, pattern >= y.size.half())
 }
 
-/// The carry and a word as one number, whose top bit is the carry.
+// The carry and a word as one number, whose top bit is the carry.
 fn with_carry(y: Word, carry: bool) -> u128
     ensures value { result ≡ bit_number carry * 2 ^ y.size.bits + y.pattern }
     ensures bound { result < 2 ^ (y.size.bits + 1) }
@@ -59,6 +67,7 @@ fn with_carry(y: Word, carry: bool) -> u128
     carry as u128 * y.size.patterns() + y.pattern as u128
 }
 
+// n rotations to the left through the carry.
 fn turn_left_with_carry(y: Word, n: u8, carry: bool) -> Answer
     requires { n ≤ y.size.bits }
     ensures value { result ≡ rotated_times_of left_carry y.size.bits n y.pattern carry }
@@ -69,6 +78,7 @@ fn turn_left_with_carry(y: Word, n: u8, carry: bool) -> Answer
     after(n, (turned & mask) as u64, turned > mask)
 }
 
+// n rotations to the right through the carry.
 fn turn_right_with_carry(y: Word, n: u8, carry: bool) -> Answer
     requires { n ≤ y.size.bits }
     ensures value { result ≡ rotated_times_of right_carry y.size.bits n y.pattern carry }
@@ -81,11 +91,10 @@ fn turn_right_with_carry(y: Word, n: u8, carry: bool) -> Answer
 
 /// y rotated left as many times as x says. The old carry plays no part.
 pub fn rln(y: Word, x: Word) -> Result<Answer, Error2>
-    requires same_size { y.size.bits ≡ x.size.bits }
-    requires same_mode { y.mode ≡ x.mode }
+    requires alike { AreAlike y x }
     ensures refused { IsErr result ↔ (x.size.bits < magnitude x.size.bits x.mode x.pattern) }
-    ensures value { IfOk result (λ answer. (carry : Bool) →
-        answer ≡ rotated_times_of left x.size.bits (magnitude x.size.bits x.mode x.pattern) y.pattern carry) }
+    ensures value { IfOk result (λ answer. (carry : Bool) → answer ≡ rotated_times_of left
+        x.size.bits (magnitude x.size.bits x.mode x.pattern) y.pattern carry) }
     ensures bound { IfOk result (λ answer. answer.pattern < 2 ^ x.size.bits) }
 {
     let n = count_in(x)?;
@@ -94,11 +103,10 @@ pub fn rln(y: Word, x: Word) -> Result<Answer, Error2>
 
 /// y rotated right as many times as x says. The old carry plays no part.
 pub fn rrn(y: Word, x: Word) -> Result<Answer, Error2>
-    requires same_size { y.size.bits ≡ x.size.bits }
-    requires same_mode { y.mode ≡ x.mode }
+    requires alike { AreAlike y x }
     ensures refused { IsErr result ↔ (x.size.bits < magnitude x.size.bits x.mode x.pattern) }
-    ensures value { IfOk result (λ answer. (carry : Bool) →
-        answer ≡ rotated_times_of right x.size.bits (magnitude x.size.bits x.mode x.pattern) y.pattern carry) }
+    ensures value { IfOk result (λ answer. (carry : Bool) → answer ≡ rotated_times_of right
+        x.size.bits (magnitude x.size.bits x.mode x.pattern) y.pattern carry) }
     ensures bound { IfOk result (λ answer. answer.pattern < 2 ^ x.size.bits) }
 {
     let n = count_in(x)?;
@@ -107,11 +115,10 @@ pub fn rrn(y: Word, x: Word) -> Result<Answer, Error2>
 
 /// y rotated left through the carry as many times as x says.
 pub fn rlcn(y: Word, x: Word, carry: bool) -> Result<Answer, Error2>
-    requires same_size { y.size.bits ≡ x.size.bits }
-    requires same_mode { y.mode ≡ x.mode }
+    requires alike { AreAlike y x }
     ensures refused { IsErr result ↔ (x.size.bits < magnitude x.size.bits x.mode x.pattern) }
-    ensures value { IfOk result (λ answer.
-        answer ≡ rotated_times_of left_carry x.size.bits (magnitude x.size.bits x.mode x.pattern) y.pattern carry) }
+    ensures value { IfOk result (λ answer. answer ≡ rotated_times_of left_carry
+        x.size.bits (magnitude x.size.bits x.mode x.pattern) y.pattern carry) }
     ensures bound { IfOk result (λ answer. answer.pattern < 2 ^ x.size.bits) }
 {
     let n = count_in(x)?;
@@ -120,11 +127,10 @@ pub fn rlcn(y: Word, x: Word, carry: bool) -> Result<Answer, Error2>
 
 /// y rotated right through the carry as many times as x says.
 pub fn rrcn(y: Word, x: Word, carry: bool) -> Result<Answer, Error2>
-    requires same_size { y.size.bits ≡ x.size.bits }
-    requires same_mode { y.mode ≡ x.mode }
+    requires alike { AreAlike y x }
     ensures refused { IsErr result ↔ (x.size.bits < magnitude x.size.bits x.mode x.pattern) }
-    ensures value { IfOk result (λ answer.
-        answer ≡ rotated_times_of right_carry x.size.bits (magnitude x.size.bits x.mode x.pattern) y.pattern carry) }
+    ensures value { IfOk result (λ answer. answer ≡ rotated_times_of right_carry
+        x.size.bits (magnitude x.size.bits x.mode x.pattern) y.pattern carry) }
     ensures bound { IfOk result (λ answer. answer.pattern < 2 ^ x.size.bits) }
 {
     let n = count_in(x)?;

@@ -1,5 +1,6 @@
 // Worked rows of every call.
 ghost use Rattle.std.specs.Prelude.{◌≡◌};
+ghost use Rattle.hp_words.specs.Alike.{AreAlike};
 
 use crate::{
     Error2, and, asr, clear_bit, count_ones, left_justify, mask_left, mask_right, not, or, rl, rlc,
@@ -26,8 +27,7 @@ enum Move {
 }
 
 fn moved(call: Move, y: Word, x: Word, carry: bool) -> Result<Answer, Error2>
-    requires same_size { y.size.bits ≡ x.size.bits }
-    requires same_mode { y.mode ≡ x.mode }
+    requires alike { AreAlike y x }
 {
     match call {
         Sl => Ok(sl(y)),
@@ -59,8 +59,7 @@ enum Of {
 }
 
 fn number_of(call: Of, y: Word, x: Word) -> Result<u64, Error2>
-    requires same_size { y.size.bits ≡ x.size.bits }
-    requires same_mode { y.mode ≡ x.mode }
+    requires alike { AreAlike y x }
 {
     match call {
         MaskLeft => mask_left(x),

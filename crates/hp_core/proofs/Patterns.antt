@@ -8,7 +8,7 @@ use Rattle.hp_model.specs.declared.Mode.{Mode}
 use Rattle.hp_model.specs.declared.Mode.TheVariants.{Unsigned, Ones, Twos}
 use Rattle.hp_model.specs.Words.{value, low, magnitude}
 use Rattle.hp_model.proofs.WordValues.{doubled}
-use Rattle.hp_model.specs.Rows.{double_product}
+use Rattle.hp_model.specs.WordOperations.{double_product}
 
 pub low_below : (w : ℕ) (mode : Mode) (v : ℤ) → low w mode v < 2 ^ w
 low_below w Unsigned (pos n) = mod-lt n (one-le-pow w 2 (lit≤ tt))

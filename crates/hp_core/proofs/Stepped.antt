@@ -1,5 +1,5 @@
 -- What every operation keeps.
-use Rattle.std.proofs.Common.{◌≡◌, ℕ, ◌+◌, ◌≤◌, false, List, [], ◌∷◌, length, slice_index, subst, sym, ap, ◌∙◌}
+use Rattle.std.proofs.Common.{◌≡◌, ℕ, ◌+◌, ◌≤◌, false, Bool, List, [], ◌∷◌, length, slice_index, subst, sym, ap, ◌∙◌}
 use Rattle.std.specs.Prelude.{All}
 use Rattle.std.proofs.lemmas.List.Elements.{All-head, All-tail}
 use Rattle.hp_model.specs.declared.Stop.{Stop}
@@ -7,15 +7,24 @@ use Rattle.hp_model.specs.declared.Stop.TheVariants.{Go}
 use Rattle.hp_model.specs.Operations.{Operation}
 use Rattle.hp_model.specs.State.{Control, Data}
 use Rattle.hp_model.specs.DataStep.{data_step}
+use Rattle.hp_model.specs.ControlStep.{control_step}
 use Rattle.hp_model.specs.Run.{Step, operated}
-use Rattle.hp_model.specs.Wrote.{writes}
+use Rattle.hp_model.specs.WrittenNibbles.{writes}
 use Rattle.hp_model.proofs.KeptNibbles.{step-nibble}
-use Rattle.hp_model.specs.Asks.{answers}
+use Rattle.hp_model.specs.Questions.{answers}
 use Rattle.hp_model.proofs.Kept.{KeepsProgram, control_step-keeps}
 use Rattle.hp_model.specs.Laws.{Stands, are_lines}
 use Rattle.hp_model.proofs.GoesOn.{control_step-goes}
 use Rattle.hp_core.specs.declared.machine.Machine.{Machine}
-use Rattle.hp_core.specs.Machines.{Steps, KeepsLines, control_of, data_of, machine_of, step_of}
+use Rattle.hp_core.specs.Machines.{Changes, Steps, KeepsLines, control_of, data_of, machine_of, step_of}
+
+-- an operation is what it changes in the data, and then in control
+pub stepped : (old mid new : Machine) (stop : Stop) (op : Operation) (given : List Bool) → Changes old mid op given
+    → control_step (control_of mid) op given ≡ (control_of new, stop) → data_of new ≡ data_of mid → Steps old new stop op
+stepped old mid new stop op given changes decided same = record {
+  control = ap (λ g. control_step (control_of old) op g) (sym changes.answers) ∙ ap (λ k. control_step k op given) (sym changes.control) ∙ decided;
+  contents = ap (λ g. data_step (control_of old) op g (data_of old)) (sym changes.answers) ∙ changes.contents ∙ sym same;
+}
 
 -- no operation changes a line
 pub stepped_keeps : (old new : Machine) (stop : Stop) (op : Operation) → Steps old new stop op → KeepsLines old new

@@ -5,11 +5,13 @@ use Rattle.hp_model.specs.declared.Base.{Base}
 use Rattle.hp_model.specs.State.{Machine}
 use Rattle.hp_model.specs.Memory.{Memory}
 use Rattle.hp_words.specs.declared.content.Content.{Content}
+use Rattle.hp_words.specs.Contents.{data_of}
 
 -- at line 1, with nothing pending, lift enabled, no entry and window 0
 abbrev pub begun : ℕ → Mode → Base → Memory → Content → Machine
 begun size mode base memory content = record {
   control = record {
+    bytes = memory.bytes;
     size = size;
     mode = mode;
     base = base;
@@ -21,14 +23,5 @@ begun size mode base memory content = record {
     entry = None;
     window = 0;
   };
-  contents = record {
-    x = content.x;
-    y = content.y;
-    z = content.z;
-    t = content.t;
-    last = content.l;
-    index = content.i;
-    flags = content.flags;
-    nibbles = memory.nibbles;
-  };
+  contents = data_of content memory.nibbles;
 }

@@ -2,3 +2,4 @@ pub mod Machines
 pub mod Begun
 pub mod Moves
 pub mod FromLines
+pub mod Fitting

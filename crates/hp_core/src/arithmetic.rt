@@ -1,40 +1,47 @@
 // Arithmetic.
-ghost use Rattle.std.specs.Prelude.{◌≡◌, ◌^◌, ◌<◌, pos, int_lt, is_err, IfOk};
+ghost use Rattle.std.specs.Prelude.{◌≡◌, ◌^◌, ◌<◌, [], ◌∷◌, pos, int_lt, is_err, IfOk};
 ghost use Rattle.hp_model.specs.Words.{value};
-ghost use Rattle.hp_model.specs.Rows.{root_of};
+ghost use Rattle.hp_model.specs.WordOperations.{root_of};
 ghost use Rattle.hp_model.specs.Operations as ops;
 ghost use Rattle.hp_ops.specs.Meaning.{of_arithmetic};
-ghost use Rattle.hp_core.specs.Machines.{Steps};
+ghost use Rattle.hp_core.specs.Machines.{Changes};
 
 use crate::answers::{answer_two, answer_x};
+use crate::given::Given;
 use crate::machine::Machine;
-use crate::moves::{fail, finish, put};
+use crate::moves::put;
 use hp_arith::{abs, add, chs, div, mul, rmd, root, sub};
-use hp_model::{Answer, Stop};
+use hp_model::Answer;
 use hp_ops::Arithmetic;
 use hp_words::{Error0, Word};
 
-/// The quotient, or Error 0 where X is zero.
-fn step_divide(machine: &mut Machine) -> Stop
-    ensures { Steps machine.old machine.new result ops.divide }
+/// The quotient. Whether X is zero, which is Error 0.
+fn divide(machine: &mut Machine) -> bool
+    ensures { Changes machine.old machine.new ops.divide (result ∷ []) }
 {
     match div(machine.y_word(), machine.x_word()) {
-        Ok(answer) => answer_two(machine, answer),
-        Err(_) => fail(&mut machine.control, 0),
+        Err(_) => true,
+        Ok(answer) => {
+            answer_two(machine, answer);
+            false
+        }
     }
 }
 
-/// The remainder, or Error 0 where X is zero.
-fn step_remainder(machine: &mut Machine) -> Stop
-    ensures { Steps machine.old machine.new result ops.remainder }
+/// The remainder. Whether X is zero, which is Error 0.
+fn remainder(machine: &mut Machine) -> bool
+    ensures { Changes machine.old machine.new ops.remainder (result ∷ []) }
 {
     match rmd(machine.y_word(), machine.x_word()) {
-        Ok(answer) => answer_two(machine, answer),
-        Err(_) => fail(&mut machine.control, 0),
+        Err(_) => true,
+        Ok(answer) => {
+            answer_two(machine, answer);
+            false
+        }
     }
 }
 
-/// The square root, and whether there is one, as the question is asked.
+/// The square root, and whether there is one, as the question is asked: only a proof wants it apart.
 fn real_root(x: Word) -> Result<Answer, Error0>
     ensures asked { int_lt (value x.size.bits x.mode x.pattern) (pos 0) ≡ is_err result }
     ensures value { IfOk result (λ answer. answer ≡ root_of x.size.bits x.mode x.pattern) }
@@ -46,30 +53,33 @@ fn real_root(x: Word) -> Result<Answer, Error0>
     }
 }
 
-/// The square root, or Error 0 where X is negative.
-fn step_square_root(machine: &mut Machine) -> Stop
-    ensures { Steps machine.old machine.new result ops.square_root }
+/// The square root. Whether X is negative, which is Error 0.
+fn square_root(machine: &mut Machine) -> bool
+    ensures { Changes machine.old machine.new ops.square_root (result ∷ []) }
 {
     let x = machine.x_word();
     match real_root(x) {
-        Ok(answer) => answer_x(machine, answer),
-        Err(_) => fail(&mut machine.control, 0),
+        Err(_) => true,
+        Ok(answer) => {
+            answer_x(machine, answer);
+            false
+        }
     }
 }
 
 /// X with its sign changed, and LAST X as it was.
-fn step_change_sign(machine: &mut Machine) -> Stop
-    ensures { Steps machine.old machine.new result ops.change_sign }
+fn change_sign(machine: &mut Machine)
+    ensures { Changes machine.old machine.new ops.change_sign [] }
 {
     let answer = chs(machine.x_word());
-    finish(&mut machine.control, true);
     put(&mut machine.content, answer);
-    Stop::Go
 }
 
 /// An operation of arithmetic.
-pub fn step_arithmetic(machine: &mut Machine, op: Arithmetic) -> Stop
-    ensures { Steps machine.old machine.new result (of_arithmetic op) }
+#[inline(never)]
+pub fn change(machine: &mut Machine, op: Arithmetic, given: &mut Given)
+    requires { given.old.items ≡ [] }
+    ensures { Changes machine.old machine.new (of_arithmetic op) given.new.items }
 {
     let x = machine.x_word();
     let y = machine.y_word();
@@ -77,10 +87,10 @@ pub fn step_arithmetic(machine: &mut Machine, op: Arithmetic) -> Stop
         Arithmetic::Add => answer_two(machine, add(y, x)),
         Arithmetic::Subtract => answer_two(machine, sub(y, x)),
         Arithmetic::Multiply => answer_two(machine, mul(y, x)),
-        Arithmetic::Divide => step_divide(machine),
-        Arithmetic::Remainder => step_remainder(machine),
-        Arithmetic::ChangeSign => step_change_sign(machine),
+        Arithmetic::Divide => given.push(divide(machine)),
+        Arithmetic::Remainder => given.push(remainder(machine)),
+        Arithmetic::ChangeSign => change_sign(machine),
         Arithmetic::Absolute => answer_x(machine, abs(x)),
-        Arithmetic::SquareRoot => step_square_root(machine),
+        Arithmetic::SquareRoot => given.push(square_root(machine)),
     }
 }

@@ -1,93 +1,106 @@
 // Masks, single bits and logic.
-ghost use Rattle.std.specs.Prelude.{◌≡◌};
+ghost use Rattle.std.specs.Prelude.{◌≡◌, [], ◌∷◌};
 ghost use Rattle.hp_model.specs.Operations as ops;
 ghost use Rattle.hp_ops.specs.Meaning.{of_bits, of_logic};
-ghost use Rattle.hp_core.specs.Machines.{Steps};
+ghost use Rattle.hp_core.specs.Machines.{Changes};
 
 use crate::answers::{answer_two, answer_x, plain};
+use crate::given::Given;
 use crate::machine::Machine;
-use crate::moves::fail;
-use crate::skips::skip_if;
 use hp_bits::{and, clear_bit, count_ones, mask_left, mask_right, not, or, set_bit, test_bit, xor};
-use hp_model::Stop;
 use hp_ops::{Bits, Logic};
 
-/// Ones from the left, or Error 2 above the word size.
-fn step_mask_left(machine: &mut Machine) -> Stop
-    ensures { Steps machine.old machine.new result ops.mask_left }
+/// Ones from the left. Whether X is above the word size, which is Error 2.
+fn left_mask(machine: &mut Machine) -> bool
+    ensures { Changes machine.old machine.new ops.mask_left (result ∷ []) }
 {
     match mask_left(machine.x_word()) {
-        Ok(pattern) => answer_x(machine, plain(pattern)),
-        Err(_) => fail(&mut machine.control, 2),
+        Err(_) => true,
+        Ok(pattern) => {
+            answer_x(machine, plain(pattern));
+            false
+        }
     }
 }
 
-/// Ones from the right, or Error 2 above the word size.
-fn step_mask_right(machine: &mut Machine) -> Stop
-    ensures { Steps machine.old machine.new result ops.mask_right }
+/// Ones from the right. Whether X is above the word size, which is Error 2.
+fn right_mask(machine: &mut Machine) -> bool
+    ensures { Changes machine.old machine.new ops.mask_right (result ∷ []) }
 {
     match mask_right(machine.x_word()) {
-        Ok(pattern) => answer_x(machine, plain(pattern)),
-        Err(_) => fail(&mut machine.control, 2),
+        Err(_) => true,
+        Ok(pattern) => {
+            answer_x(machine, plain(pattern));
+            false
+        }
     }
 }
 
-/// Y with a bit set, or Error 2 from the word size on.
-fn step_set_bit(machine: &mut Machine) -> Stop
-    ensures { Steps machine.old machine.new result ops.set_bit }
+/// Y with a bit set. Whether X is the word size or more, which is Error 2.
+fn with_bit_set(machine: &mut Machine) -> bool
+    ensures { Changes machine.old machine.new ops.set_bit (result ∷ []) }
 {
     match set_bit(machine.y_word(), machine.x_word()) {
-        Ok(pattern) => answer_two(machine, plain(pattern)),
-        Err(_) => fail(&mut machine.control, 2),
+        Err(_) => true,
+        Ok(pattern) => {
+            answer_two(machine, plain(pattern));
+            false
+        }
     }
 }
 
-/// Y with a bit cleared, or Error 2 from the word size on.
-fn step_clear_bit(machine: &mut Machine) -> Stop
-    ensures { Steps machine.old machine.new result ops.clear_bit }
+/// Y with a bit cleared. Whether X is the word size or more, which is Error 2.
+fn with_bit_cleared(machine: &mut Machine) -> bool
+    ensures { Changes machine.old machine.new ops.clear_bit (result ∷ []) }
 {
     match clear_bit(machine.y_word(), machine.x_word()) {
-        Ok(pattern) => answer_two(machine, plain(pattern)),
-        Err(_) => fail(&mut machine.control, 2),
+        Err(_) => true,
+        Ok(pattern) => {
+            answer_two(machine, plain(pattern));
+            false
+        }
     }
 }
 
-/// The stack drops, and the next line is skipped where the bit of Y is 0. Error 2 from the word size
-/// on.
-fn step_test_bit(machine: &mut Machine) -> Stop
-    ensures { Steps machine.old machine.new result ops.test_bit }
+/// Y comes to X. Whether X is the word size or more, which is Error 2, and else Y's bit.
+fn bit_tested(machine: &mut Machine, given: &mut Given)
+    requires { given.old.items ≡ [] }
+    ensures { Changes machine.old machine.new ops.test_bit given.new.items }
 {
     match test_bit(machine.y_word(), machine.x_word()) {
+        Err(_) => given.push(true),
         Ok(set) => {
+            given.push(false);
+            given.push(set);
             let y = machine.content.y;
-            let stop = answer_two(machine, plain(y));
-            skip_if(machine, !set);
-            stop
+            answer_two(machine, plain(y));
         }
-        Err(_) => fail(&mut machine.control, 2),
     }
 }
 
 /// A mask, the count of ones, or a single bit.
-pub fn step_bits(machine: &mut Machine, op: Bits) -> Stop
-    ensures { Steps machine.old machine.new result (of_bits op) }
+#[inline(never)]
+pub fn change(machine: &mut Machine, op: Bits, given: &mut Given)
+    requires { given.old.items ≡ [] }
+    ensures { Changes machine.old machine.new (of_bits op) given.new.items }
 {
     match op {
-        Bits::MaskLeft => step_mask_left(machine),
-        Bits::MaskRight => step_mask_right(machine),
+        Bits::MaskLeft => given.push(left_mask(machine)),
+        Bits::MaskRight => given.push(right_mask(machine)),
         Bits::CountOnes => {
             let count = count_ones(machine.x_word());
-            answer_x(machine, plain(count))
+            answer_x(machine, plain(count));
         }
-        Bits::Set => step_set_bit(machine),
-        Bits::Clear => step_clear_bit(machine),
-        Bits::Test => step_test_bit(machine),
+        Bits::Set => given.push(with_bit_set(machine)),
+        Bits::Clear => given.push(with_bit_cleared(machine)),
+        Bits::Test => bit_tested(machine, given),
     }
 }
 
 /// Logic on each bit.
-pub fn step_logic(machine: &mut Machine, op: Logic) -> Stop
-    ensures { Steps machine.old machine.new result (of_logic op) }
+#[inline(never)]
+pub fn change_each(machine: &mut Machine, op: Logic)
+    ensures { Changes machine.old machine.new (of_logic op) [] }
 {
     let x = machine.x_word();
     let y = machine.y_word();

@@ -1,18 +1,18 @@
 // Machines to begin with.
 ghost use Rattle.std.specs.Prelude.{◌≡◌, ◌-◌, ◌^◌, ◌≤◌};
-ghost use Rattle.hp_model.specs.State.{reset};
+ghost use Rattle.hp_model.specs.State.{reset, memory_bytes};
 ghost use Rattle.hp_core.specs.Machines.{machine_of};
 ghost use Rattle.hp_core.specs.Begun.{begun};
 
-use crate::calls::Calls;
-use crate::machine::{Control, Machine};
-use hp_nibbles::Memory;
+use crate::machine::Machine;
+use hp_control::{Calls, Control};
+use hp_nibbles::{Extent, Memory};
 use hp_words::{Base, Content, Mode, WordSize};
 
 impl Machine {
-    /// The machine after a full reset.
-    pub fn new() -> Machine
-        ensures { machine_of result ≡ reset }
+    /// The machine after a full reset, with so much memory.
+    pub fn new(extent: Extent) -> Machine
+        ensures { machine_of result ≡ reset (memory_bytes extent) }
     {
         let content = Content {
             x: 0,
@@ -27,7 +27,7 @@ impl Machine {
             WordSize { bits: 16 },
             Mode::Twos,
             Base::Hex,
-            Memory::new(),
+            Memory::new(extent),
             content,
         );
         machine.control.line = 0;

@@ -1,32 +1,36 @@
-//! The machine, and one operation done to it.
+//! The machine: control, what operations work on, and memory, and one operation done to it. Control is
+//! decided below, in hp_control, from the answers that the data gives here.
 #![tactic(auto)]
 
 mod answers;
 mod arithmetic;
 mod bits;
-mod calls;
 mod create;
 mod digits;
 mod double;
 mod flags;
-mod jumps;
+mod given;
+mod labels;
+mod listing;
 mod loops;
 pub mod machine;
 mod moves;
 mod registers;
-mod search;
 mod settings;
 mod shifts;
-mod skips;
 mod stack;
 mod step;
 mod step_all;
 #[cfg(test)]
 mod tests;
 mod tests_of_x;
-mod windows;
 mod words;
 
-pub use calls::Calls;
+// The machine: `new`, `begin`; `step`, `step_all`; `op_at`; `x_word`.
+pub use machine::Machine;
+
+// What decides which operation comes next.
+pub use hp_control::{Calls, Control};
+
+// Whether a run goes on after an operation, and how it ends.
 pub use hp_model::{End, Stop};
-pub use machine::{Control, Machine};

@@ -1,36 +1,8 @@
 // The moves of the stack, and what answers do.
-ghost use Rattle.std.specs.Prelude.{◌≡◌, if◌then◌else◌, None};
+ghost use Rattle.std.specs.Prelude.{◌≡◌, if◌then◌else◌};
 ghost use Rattle.hp_core.specs.Moves.{lifted, flags_after};
 
-use crate::machine::Control;
-use hp_model::{End, Stop};
 use hp_words::{Answer, Content};
-
-/// Digit entry is over and the window is 0, as after each operation that isn't a digit.
-pub fn finish(control: &mut Control, lift: bool)
-    ensures { control.new ≡ record control.old { entry = None; lift = lift; window = 0 } }
-{
-    control.entry = None;
-    control.lift = lift;
-    control.window = 0;
-}
-
-/// As `finish`, where stack lift is left as it was.
-pub fn finish_as_it_was(control: &mut Control)
-    ensures { control.new ≡ record control.old { entry = None; window = 0 } }
-{
-    control.entry = None;
-    control.window = 0;
-}
-
-/// Digit entry is over, and all else stays, as after each operation that errs.
-pub fn fail(control: &mut Control, error: u8) -> Stop
-    ensures control { control.new ≡ record control.old { entry = None } }
-    ensures stop { result ≡ Stop.Ended (End.Error error) }
-{
-    control.entry = None;
-    Stop::Ended(End::Error(error))
-}
 
 /// Y = x, Z = y and T = z, so that X can be new.
 pub fn lift(content: &mut Content)

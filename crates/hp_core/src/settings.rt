@@ -1,33 +1,17 @@
-// The base, the mode and the word size.
-ghost use Rattle.std.specs.Prelude.{◌≡◌, ◌%◌, ◌^◌, ◌≤◌, ◌==◌, if◌then◌else◌};
+// The word size.
+ghost use Rattle.std.specs.Prelude.{◌≡◌, ◌%◌, ◌^◌, []};
 ghost use Rattle.hp_model.specs.Operations as ops;
 ghost use Rattle.hp_ops.specs.Meaning.{of_setting};
-ghost use Rattle.hp_core.specs.Machines.{Steps};
+ghost use Rattle.hp_core.specs.Machines.{Changes};
+ghost use Rattle.hp_core.specs.Fitting.{IsCut};
 
+use crate::given::{Given, spell};
 use crate::machine::Machine;
-use crate::moves::{drop, fail, finish, finish_as_it_was};
+use crate::moves::drop;
 use crate::words::masked;
-use hp_model::Stop;
-use hp_ops::Setting;
-use hp_words::{Base, Content, Mode, WordSize};
-
-/// The base is set.
-fn step_base(machine: &mut Machine, base: Base) -> Stop
-    ensures { Steps machine.old machine.new result (ops.set_base base) }
-{
-    finish_as_it_was(&mut machine.control);
-    machine.control.base = base;
-    Stop::Go
-}
-
-/// The mode is set.
-fn step_mode(machine: &mut Machine, mode: Mode) -> Stop
-    ensures { Steps machine.old machine.new result (ops.set_mode mode) }
-{
-    finish_as_it_was(&mut machine.control);
-    machine.control.mode = mode;
-    Stop::Go
-}
+use hp_control::size_given;
+use hp_ops::{Op, Setting};
+use hp_words::{Content, WordSize};
 
 /// The stack and LAST X lose what is above the word size.
 fn cut(content: &mut Content, size: WordSize)
@@ -41,42 +25,33 @@ fn cut(content: &mut Content, size: WordSize)
     content.l = masked(size, content.l);
 }
 
-/// The word size that a number names, which is 64 for 0.
-fn size_named(bits: u64) -> WordSize
-    requires { bits ≤ 64 }
-    ensures { result.bits ≡ (if bits == 0 then 64 else bits) }
-{
-    if bits == 0 {
-        WordSize { bits: 64 }
-    } else {
-        WordSize { bits: bits as u8 }
-    }
-}
-
-/// The word size becomes the magnitude of X, or 64 where that is 0. Error 2 above 64.
-fn step_size(machine: &mut Machine) -> Stop
-    ensures { Steps machine.old machine.new result ops.set_size }
+/// X names the word size, to which the stack and LAST X are cut. Whether it is above 64, which is
+/// Error 2, and else its bits.
+fn set_size(machine: &mut Machine, given: &mut Given)
+    requires { given.old.items ≡ [] }
+    ensures changes { Changes machine.old machine.new ops.set_size given.new.items }
+    ensures cut { IsCut (Op.Setting Setting.Size) given.new.items machine.new.content }
 {
     let bits = machine.x_word().magnitude();
     if bits > 64 {
-        return fail(&mut machine.control, 2);
+        given.push(true);
+        return;
     }
-    let size = size_named(bits);
-    finish(&mut machine.control, true);
+    spell(given, bits, 7);
     machine.content.x = machine.content.y;
     drop(&mut machine.content);
-    cut(&mut machine.content, size);
-    machine.control.size = size;
-    Stop::Go
+    cut(&mut machine.content, size_given(given.as_slice()));
 }
 
-/// The base, the mode or the word size is set.
-pub fn step_setting(machine: &mut Machine, op: Setting) -> Stop
-    ensures { Steps machine.old machine.new result (of_setting op) }
+/// The base, the mode or the word size is set, of which the last alone has to do with data.
+#[inline(never)]
+pub fn change(machine: &mut Machine, op: Setting, given: &mut Given)
+    requires { given.old.items ≡ [] }
+    ensures changes { Changes machine.old machine.new (of_setting op) given.new.items }
+    ensures cut { IsCut (Op.Setting op) given.new.items machine.new.content }
 {
     match op {
-        Setting::Base(base) => step_base(machine, base),
-        Setting::Mode(mode) => step_mode(machine, mode),
-        Setting::Size => step_size(machine),
+        Setting::Base(_) | Setting::Mode(_) => {}
+        Setting::Size => set_size(machine, given),
     }
 }

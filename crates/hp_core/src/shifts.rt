@@ -1,42 +1,41 @@
 // Shifts and rotations.
-ghost use Rattle.std.specs.Prelude.{◌≡◌, ◌^◌, ◌<◌, ◌↔◌, IsErr, IfOk};
+ghost use Rattle.std.specs.Prelude.{◌≡◌, ◌^◌, ◌<◌, ◌↔◌, [], ◌∷◌, IsErr, IfOk};
 ghost use Rattle.hp_model.specs.State.{carry as carry_of};
-ghost use Rattle.hp_model.specs.Asks.{x_magnitude};
-ghost use Rattle.hp_model.specs.Rows.{rotated_of, rotated_times_of};
+ghost use Rattle.hp_model.specs.Questions.{x_magnitude};
+ghost use Rattle.hp_model.specs.WordOperations.{rotated_of, rotated_times_of};
 ghost use Rattle.hp_model.specs.Operations as ops;
 ghost use Rattle.hp_ops.specs.Meaning.{of_shift, way};
-ghost use Rattle.hp_core.specs.Machines.{Steps, control_of, data_of};
+ghost use Rattle.hp_core.specs.Machines.{Changes, control_of, data_of};
 
 use crate::answers::{answer_two, answer_x};
 use crate::machine::Machine;
-use crate::moves::{fail, finish, lift, save};
+use crate::moves::{lift, save};
 use hp_bits::{Error2, asr, left_justify, rl, rlc, rlcn, rln, rr, rrc, rrcn, rrn, sl, sr};
-use hp_model::{Answer, Stop};
+use hp_model::Answer;
 use hp_ops::{Rotation, Shift};
 
 /// X shifted to the left until its top bit is 1, in Y, and by how many places, in X.
-fn step_left_justify(machine: &mut Machine) -> Stop
-    ensures { Steps machine.old machine.new result ops.left_justify }
+fn justify(machine: &mut Machine)
+    ensures { Changes machine.old machine.new ops.left_justify [] }
 {
     let (word, count) = left_justify(machine.x_word());
-    finish(&mut machine.control, true);
     save(&mut machine.content);
     lift(&mut machine.content);
     machine.content.y = word;
     machine.content.x = count;
-    Stop::Go
 }
 
 /// A shift of X.
-pub fn step_shift(machine: &mut Machine, op: Shift) -> Stop
-    ensures { Steps machine.old machine.new result (of_shift op) }
+#[inline(never)]
+pub fn change(machine: &mut Machine, op: Shift)
+    ensures { Changes machine.old machine.new (of_shift op) [] }
 {
     let x = machine.x_word();
     match op {
         Shift::Left => answer_x(machine, sl(x)),
         Shift::Right => answer_x(machine, sr(x)),
         Shift::Arithmetic => answer_x(machine, asr(x)),
-        Shift::Justify => step_left_justify(machine),
+        Shift::Justify => justify(machine),
     }
 }
 
@@ -57,11 +56,12 @@ fn rotated(machine: &Machine, op: Rotation) -> Answer
 }
 
 /// A rotation of X by one place.
-pub fn step_rotate(machine: &mut Machine, op: Rotation) -> Stop
-    ensures { Steps machine.old machine.new result (ops.rotate (way op)) }
+#[inline(never)]
+pub fn rotate(machine: &mut Machine, op: Rotation)
+    ensures { Changes machine.old machine.new (ops.rotate (way op)) [] }
 {
     let answer = rotated(machine, op);
-    answer_x(machine, answer)
+    answer_x(machine, answer);
 }
 
 /// Y rotated by as many places as X says.
@@ -84,12 +84,16 @@ fn rotated_many(machine: &Machine, op: Rotation) -> Result<Answer, Error2>
     }
 }
 
-/// Y rotated by as many places as X says, or Error 2 above the word size.
-pub fn step_rotate_many(machine: &mut Machine, op: Rotation) -> Stop
-    ensures { Steps machine.old machine.new result (ops.rotate_many (way op)) }
+/// Y rotated by as many places as X says. Whether that is above the word size, which is Error 2.
+#[inline(never)]
+pub fn rotate_many(machine: &mut Machine, op: Rotation) -> bool
+    ensures { Changes machine.old machine.new (ops.rotate_many (way op)) (result ∷ []) }
 {
     match rotated_many(machine, op) {
-        Ok(answer) => answer_two(machine, answer),
-        Err(_) => fail(&mut machine.control, 2),
+        Err(_) => true,
+        Ok(answer) => {
+            answer_two(machine, answer);
+            false
+        }
     }
 }

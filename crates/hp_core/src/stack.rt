@@ -1,11 +1,10 @@
 // The operations that move the stack.
-ghost use Rattle.std.specs.Prelude.{◌≡◌};
+ghost use Rattle.std.specs.Prelude.{◌≡◌, []};
 ghost use Rattle.hp_ops.specs.Meaning.{of_stack};
-ghost use Rattle.hp_core.specs.Machines.{Steps};
+ghost use Rattle.hp_core.specs.Machines.{Changes};
 
 use crate::machine::Machine;
-use crate::moves::{finish, lift, push};
-use hp_model::Stop;
+use crate::moves::{lift, push};
 use hp_ops::Stack;
 use hp_words::Content;
 
@@ -39,14 +38,9 @@ fn exchange(content: &mut Content)
 }
 
 /// An operation that moves the stack.
-pub fn step_stack(machine: &mut Machine, op: Stack) -> Stop
-    ensures { Steps machine.old machine.new result (of_stack op) }
+pub fn change(machine: &mut Machine, op: Stack)
+    ensures { Changes machine.old machine.new (of_stack op) [] }
 {
-    let lifts = machine.control.lift;
-    finish(
-        &mut machine.control,
-        op != Stack::Enter && op != Stack::ClearX,
-    );
     match op {
         Stack::Enter => lift(&mut machine.content),
         Stack::RollDown => roll_down(&mut machine.content),
@@ -55,8 +49,7 @@ pub fn step_stack(machine: &mut Machine, op: Stack) -> Stop
         Stack::ClearX => machine.content.x = 0,
         Stack::LastX => {
             let last = machine.content.l;
-            push(&mut machine.content, lifts, last);
+            push(&mut machine.content, machine.control.lift, last);
         }
     }
-    Stop::Go
 }

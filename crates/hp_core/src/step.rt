@@ -1,47 +1,69 @@
-// One operation.
-ghost use Rattle.std.specs.Prelude.{◌≡◌, ℕ, ◌≤◌, false, slice_index};
+// One operation: what it changes in the data, and then, from the answers of the data, in control.
+ghost use Rattle.std.specs.Prelude.{◌≡◌, ℕ, ◌≤◌, [], false, slice_index};
 ghost use Rattle.hp_model.specs.Run.{operated};
-ghost use Rattle.hp_model.specs.Wrote.{writes};
+ghost use Rattle.hp_model.specs.Questions.{IsComplete};
+ghost use Rattle.hp_model.specs.ControlStep.{control_step};
+ghost use Rattle.hp_model.specs.WrittenNibbles.{writes};
 ghost use Rattle.hp_ops.specs.Meaning.{operation};
 ghost use Rattle.hp_core.specs.FromLines.{IsFromALine};
-ghost use Rattle.hp_core.specs.Machines.{Steps, KeepsLines, machine_of, step_of};
+ghost use Rattle.hp_core.specs.Fitting.{IsCut};
+ghost use Rattle.hp_core.specs.Machines.{Changes, KeepsLines, control_of, data_of, machine_of, step_of};
 
+use crate::given::Given;
 use crate::machine::Machine;
 use crate::{
-    arithmetic, bits, digits, double, flags, jumps, loops, registers, settings, shifts, stack,
-    tests_of_x, windows,
+    arithmetic, bits, digits, double, flags, labels, loops, registers, settings, shifts, stack,
+    tests_of_x,
 };
+use arrayvec::ArrayVec;
+use hp_control::step_control;
 use hp_model::Stop;
 use hp_ops::Op;
 
-/// Does an operation of any group.
-fn step_group(machine: &mut Machine, op: Op) -> Stop
-    requires { IsFromALine (operation op) machine.old.control.line }
-    ensures { Steps machine.old machine.new result (operation op) }
+/// Does to the data what an operation of any group does, and answers what control asks.
+#[inline(always)]
+fn change(machine: &mut Machine, op: Op, given: &mut Given)
+    requires { given.old.items ≡ [] }
+    ensures changes { Changes machine.old machine.new (operation op) given.new.items }
+    ensures cut { IsCut op given.new.items machine.new.content }
 {
     match op {
-        Op::Digit(digit) => digits::step_digit(machine, digit),
-        Op::Stack(op) => stack::step_stack(machine, op),
-        Op::Arithmetic(op) => arithmetic::step_arithmetic(machine, op),
-        Op::Double(op) => double::step_double(machine, op),
-        Op::Shift(op) => shifts::step_shift(machine, op),
-        Op::Rotate(op) => shifts::step_rotate(machine, op),
-        Op::RotateMany(op) => shifts::step_rotate_many(machine, op),
-        Op::Bits(op) => bits::step_bits(machine, op),
-        Op::Logic(op) => bits::step_logic(machine, op),
-        Op::Setting(op) => settings::step_setting(machine, op),
-        Op::Test(op) => tests_of_x::step_test(machine, op),
-        Op::Loop(op) => loops::step_loop(machine, op),
-        Op::Flags(op) => flags::step_flags(machine, op),
-        Op::Jump(op) => jumps::step_jump(machine, op),
-        Op::Registers(op) => registers::step_registers(machine, op),
-        Op::Windows(op) => windows::step_windows(machine, op),
+        Op::Digit(digit) => digits::enter(machine, digit),
+        Op::Stack(op) => stack::change(machine, op),
+        Op::Arithmetic(op) => arithmetic::change(machine, op, given),
+        Op::Double(op) => double::change(machine, op, given),
+        Op::Shift(op) => shifts::change(machine, op),
+        Op::Rotate(op) => shifts::rotate(machine, op),
+        Op::RotateMany(op) => given.push(shifts::rotate_many(machine, op)),
+        Op::Bits(op) => bits::change(machine, op, given),
+        Op::Logic(op) => bits::change_each(machine, op),
+        Op::Setting(op) => settings::change(machine, op, given),
+        Op::Test(op) => given.push(tests_of_x::test_holds(machine, op)),
+        Op::Loop(op) => given.push(loops::count(machine, op)),
+        Op::Flags(op) => flags::change(machine, op, given),
+        Op::Jump(op) => labels::answer(machine, op, given),
+        Op::Registers(op) => registers::change(machine, op, given),
+        Op::Windows(_) => {}
     }
+}
+
+/// Does to control what an operation does, from the answers of the data.
+#[inline(always)]
+fn decide(machine: &mut Machine, op: Op, given: &[bool]) -> Stop
+    requires from { IsFromALine (operation op) machine.old.control.line }
+    requires complete { IsComplete (control_of machine.old) (operation op) given.now }
+    requires cut { IsCut op given.now machine.old.content }
+    ensures control { control_step (control_of machine.old) (operation op) given.now
+        ≡ (control_of machine.new, result) }
+    ensures contents { data_of machine.new ≡ data_of machine.old }
+{
+    step_control(&mut machine.control, &machine.memory, op, given)
 }
 
 impl Machine {
     /// Does an operation, the line number standing at the line after it. Errors are those of the
     /// HP-16C Owner's Handbook, by their numbers: after one, all but digit entry is as it was.
+    #[inline(always)]
     pub fn step(&mut self, op: Op) -> Stop
         requires { IsFromALine (operation op) self.old.control.line }
         ensures done { operated (operation op) (machine_of self.old) ≡ step_of self.new result }
@@ -50,6 +72,8 @@ impl Machine {
         ensures kept { (j : ℕ) → writes (operation op) (machine_of self.old) j ≡ false
             → slice_index self.new.memory.nibbles j ≡ slice_index self.old.memory.nibbles j }
     {
-        step_group(self, op)
+        let mut given = ArrayVec::new();
+        change(self, op, &mut given);
+        decide(self, op, given.as_slice())
     }
 }

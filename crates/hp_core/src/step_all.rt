@@ -1,7 +1,7 @@
 // Several operations in order.
 ghost use Rattle.std.specs.Prelude.{◌≡◌, ℕ, true, false, map};
 ghost use Rattle.hp_model.specs.Memory.{register_value, is_of_register};
-ghost use Rattle.hp_model.specs.Wrote.{operated_all, all_write};
+ghost use Rattle.hp_model.specs.WrittenNibbles.{operated_all, all_write};
 ghost use Rattle.hp_ops.specs.Meaning.{operation};
 ghost use Rattle.hp_core.specs.FromLines.{AreFromLines};
 ghost use Rattle.hp_core.specs.Machines.{machine_of};

@@ -5,7 +5,7 @@ use crate::machine::Machine;
 use crate::words::masked;
 use Mode::{Ones, Twos, Unsigned};
 use hp_model::{End, Stop};
-use hp_nibbles::Memory;
+use hp_nibbles::{Extent, Memory};
 use hp_ops::Op;
 use hp_words::{Base, Content, Mode, WordSize};
 
@@ -29,7 +29,13 @@ fn machine(size: WordSize, mode: Mode, y: u64, z: u64, x: u64) -> Machine {
         i: 0,
         flags: [false; 6],
     };
-    Machine::begin(size, mode, Base::Hex, Memory::new(), content)
+    Machine::begin(
+        size,
+        mode,
+        Base::Hex,
+        Memory::new(Extent::Standard),
+        content,
+    )
 }
 
 const GO: Option<Stop> = Some(Stop::Go);

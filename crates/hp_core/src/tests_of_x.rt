@@ -1,19 +1,14 @@
 // The tests of X against Y or zero.
 ghost use Rattle.std.specs.Prelude.{◌≡◌};
 ghost use Rattle.hp_model.specs.Words.{value};
-ghost use Rattle.hp_model.specs.Asks.{holds_of_test};
-ghost use Rattle.hp_model.specs.Operations as ops;
+ghost use Rattle.hp_model.specs.Questions.{holds_of_test};
 ghost use Rattle.hp_ops.specs.Meaning.{condition};
-ghost use Rattle.hp_core.specs.Machines.{Steps};
 
 use crate::machine::Machine;
-use crate::moves::finish_as_it_was;
-use crate::skips::skip_if;
-use hp_model::Stop;
 use hp_ops::Test;
 
 /// Whether the condition of a test holds.
-fn test_holds(machine: &Machine, op: Test) -> bool
+pub fn test_holds(machine: &Machine, op: Test) -> bool
     ensures { result ≡ holds_of_test (condition op)
         (value machine.now.control.size.bits machine.now.control.mode machine.now.content.x)
         (value machine.now.control.size.bits machine.now.control.mode machine.now.content.y) }
@@ -30,14 +25,4 @@ fn test_holds(machine: &Machine, op: Test) -> bool
         Test::EqualY => x == y,
         Test::Zero => x == 0,
     }
-}
-
-/// The next line is skipped where the condition doesn't hold.
-pub fn step_test(machine: &mut Machine, op: Test) -> Stop
-    ensures { Steps machine.old machine.new result (ops.test (condition op)) }
-{
-    let holds = test_holds(machine, op);
-    finish_as_it_was(&mut machine.control);
-    skip_if(machine, !holds);
-    Stop::Go
 }

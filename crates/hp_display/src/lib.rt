@@ -1,5 +1,5 @@
 //! The text of the display: X in a base and a window, the shown line of a program, STATUS, MEM and
-//! errors.
+//! errors. It reads a machine and changes nothing.
 #![tactic(auto)]
 
 mod digits;
@@ -9,5 +9,6 @@ mod tests;
 mod texts;
 mod views;
 
+// The display of a view, and what STATUS and MEM show.
 pub use texts::{mem_line, status};
 pub use views::display;

@@ -1,7 +1,7 @@
 // The number part of the display.
 ghost use Rattle.std.specs.Prelude.{◌≡◌, ℕ, ◌+◌, ◌-◌, ◌*◌, ◌/◌, ◌%◌, ◌^◌, ◌<◌, ◌≤◌, ◌++◌, length, true, codes, [], ◌∷◌};
-ghost use Rattle.hp_model.specs.State.{radix};
-ghost use Rattle.hp_model.specs.Display.{number_text, has_minus as has_minus_of, base_letter as letter_of, text_if, filled_to as filled_to_of, digits_for as digits_for_of, shown_number, places_text, has_digit};
+ghost use Rattle.hp_model.specs.Display.{number_text, has_minus as has_minus_of, base_letter as letter_of, text_if, filled_to as filled_to_of, digits_for as digits_for_of};
+ghost use Rattle.hp_display.specs.Windows.{window_text, has_place};
 ghost use Rattle.hp_core.specs.Machines.{control_of, data_of};
 ghost use Rattle.arrayvec.specs.ArrayString.{array_string_len};
 
@@ -74,9 +74,9 @@ fn filled_to(machine: &Machine, base: Base) -> u32
 fn push_window(text: &mut ArrayString<32>, machine: &Machine, base: Base, first: u8) -> bool
     requires first { first ≤ 56 }
     requires room { array_string_len text.old ≤ 24 }
-    ensures text { text.new.bytes ≡ text.old.bytes ++ places_text (radix base) (filled_to_of base (control_of machine.now) (data_of machine.now)) (shown_number base (control_of machine.now) (data_of machine.now)) first 8 }
+    ensures text { text.new.bytes ≡ text.old.bytes ++ window_text base first machine.now }
     ensures len { array_string_len text.new ≤ array_string_len text.old + 8 }
-    ensures more { result ≡ has_digit (radix base) (filled_to_of base (control_of machine.now) (data_of machine.now)) (shown_number base (control_of machine.now) (data_of machine.now)) (first + 8) }
+    ensures more { result ≡ has_place base (first + 8) machine.now }
 {
     let filled = filled_to(machine, base);
     let x = machine.content.x;
@@ -102,7 +102,8 @@ fn is_negative(machine: &Machine, base: Base) -> bool
 pub fn push_number(text: &mut ArrayString<32>, machine: &Machine, base: Base, window: u8)
     requires window { window ≤ 7 }
     requires room { array_string_len text.old ≤ 8 }
-    ensures text { text.new.bytes ≡ text.old.bytes ++ number_text base window (control_of machine.now) (data_of machine.now) }
+    ensures text { text.new.bytes ≡ text.old.bytes
+        ++ number_text base window (control_of machine.now) (data_of machine.now) }
     ensures len { array_string_len text.new ≤ array_string_len text.old + 13 }
 {
     push_if(text, is_negative(machine, base), "-");

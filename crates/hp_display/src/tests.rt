@@ -2,11 +2,11 @@
 use crate::{display, mem_line, status};
 use hp_core::Machine;
 use hp_keys::{Shift, View};
-use hp_model::Base;
+use hp_model::{Base, Extent};
 
 #[test]
 fn a_new_machine(rt: HostRuntime) {
-    let machine = Machine::new();
+    let machine = Machine::new(Extent::Standard);
     assert_eq!(rt;
         display(&machine, Shift::F, false, View::Normal).as_str(),
         "0 h f"

@@ -11,7 +11,6 @@ use crate::digits::push_digit;
 use crate::numbers::{push_if, push_number};
 use arrayvec::ArrayString;
 use hp_core::Machine;
-use hp_edit::op_at;
 use hp_keys::Shift;
 use hp_model::{Base, Mode};
 use itoa::Buffer;
@@ -32,8 +31,10 @@ fn push_shift(text: &mut ArrayString<32>, shift: Shift)
 /// X in a base and a window, with the marks of the flags and of a pending shift.
 pub fn run_text(machine: &Machine, shift: Shift, base: Base, window: u8) -> ArrayString<32>
     requires { window ≤ 7 }
-    ensures text { result.bytes ≡ number_text base window (control_of machine.now) (data_of machine.now)
-        ++ text_if (flag (data_of machine.now) 4) (codes " C") ++ text_if (flag (data_of machine.now) 5) (codes " G") ++ shift_mark shift }
+    ensures text { let held = data_of machine.now in
+        result.bytes ≡ number_text base window (control_of machine.now) held
+        ++ text_if (flag held 4) (codes " C") ++ text_if (flag held 5) (codes " G")
+        ++ shift_mark shift }
     ensures room { array_string_len result < 32 }
 {
     let mut text = ArrayString::new();
@@ -64,7 +65,7 @@ fn push_operation(text: &mut ArrayString<32>, machine: &Machine)
 {
     let line = machine.control.line;
     if line > 0 {
-        let op = op_at(&machine.memory, line);
+        let op = machine.op_at(line);
         text.push(' ');
         text.push_str(op.text().as_str());
     }
@@ -73,7 +74,8 @@ fn push_operation(text: &mut ArrayString<32>, machine: &Machine)
 /// The shown line of the program, with the mark of a pending shift.
 pub fn program_text(machine: &Machine, shift: Shift) -> ArrayString<32>
     requires { machine.now.control.line ≤ length machine.now.memory.program }
-    ensures text { result.bytes ≡ three_digits machine.now.control.line ++ line_text (control_of machine.now) ++ shift_mark shift ++ codes " PRGM" }
+    ensures text { result.bytes ≡ three_digits machine.now.control.line
+        ++ line_text (control_of machine.now) ++ shift_mark shift ++ codes " PRGM" }
     ensures room { array_string_len result < 32 }
 {
     let mut text = ArrayString::new();
@@ -133,8 +135,8 @@ fn push_decimal(text: &mut ArrayString<32>, n: u16)
     text.push_str(Buffer::new().format(n));
 }
 
-/// How memory is divided, as MEM shows it: the bytes that the program's blocks have left after `P-`, and
-/// the number of registers after `r-`.
+/// How memory is divided, as MEM shows it: the bytes that the program's blocks have left after `P-`,
+/// and the number of registers after `r-`.
 pub fn mem_line(machine: &Machine) -> ArrayString<32>
     ensures text { result.bytes ≡ memory_text (control_of machine.now) }
     ensures room { array_string_len result < 32 }

@@ -15,7 +15,12 @@ use hp_keys::{Shift, View};
 pub fn display(machine: &Machine, shift: Shift, program: bool, view: View) -> ArrayString<32>
     requires { IsTrue program → machine.now.control.line ≤ length machine.now.memory.program }
     ensures text { (prefix : Prefix) → shift_of prefix ≡ shift
-        → result.bytes ≡ display_text (record { machine = machine_of machine.now; prefix = prefix; programming = program; view = view }) }
+        → result.bytes ≡ display_text (record {
+          machine = machine_of machine.now;
+          prefix = prefix;
+          programming = program;
+          view = view;
+        }) }
     ensures room { array_string_len result < 32 }
 {
     match view {

@@ -7,7 +7,7 @@ use Rattle.std.proofs.Math.Nat.{div-lt_iff_lt-mul, mod-lt, mod-eq_of_lt}
 use Rattle.hp_model.specs.declared.Mode.{Mode}
 use Rattle.hp_model.specs.declared.Mode.TheVariants.{Unsigned, Ones, Twos}
 use Rattle.hp_model.specs.Words.{low}
-use Rattle.hp_model.specs.Rows.{double_value}
+use Rattle.hp_model.specs.WordOperations.{double_value}
 use Rattle.hp_double.specs.Number.{two_words}
 
 square : (w : ℕ) → 2 ^ (2 * w) ≡ 2 ^ w * 2 ^ w

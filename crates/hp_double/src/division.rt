@@ -1,8 +1,9 @@
-// Division of a number of two words.
+// Division of a number of two words, by sign and magnitude, for a quotient and for its remainder.
 ghost use Rattle.std.specs.Prelude.{◌≡◌, ◌+◌, ◌*◌, ◌^◌, ◌<◌, ◌↔◌, IfOk, IsErr};
-ghost use Rattle.hp_model.specs.Rows.{double_value as double_value_of, double_quotient, double_rest, double_quotient_of, double_remainder_of};
+ghost use Rattle.hp_model.specs.WordOperations.{double_value as double_value_of, double_quotient, double_rest, double_quotient_of, double_remainder_of};
 ghost use Rattle.hp_double.specs.Number.{number};
 ghost use Rattle.hp_double.specs.Division.{CannotDivide};
+ghost use Rattle.hp_words.specs.Alike.{AreAlike};
 
 use crate::signed::Signed;
 use hp_words::{Answer, Error0, Mode, Word, WordSize, low};
@@ -50,14 +51,17 @@ struct Division {
     rest: i128,
 }
 
+// The number of two words divided by a third, and Error 0 where that is 0 or the quotient doesn't
+// fit.
 fn divide(upper: Word, lower: Word, divisor: Word) -> Result<Division, Error0>
-    requires upper_size { upper.size.bits ≡ divisor.size.bits }
-    requires upper_mode { upper.mode ≡ divisor.mode }
-    requires lower_size { lower.size.bits ≡ divisor.size.bits }
-    requires lower_mode { lower.mode ≡ divisor.mode }
-    ensures quotient { IfOk result (λ d. d.quotient ≡ double_quotient divisor.size.bits divisor.mode upper.pattern lower.pattern divisor.pattern) }
-    ensures rest { IfOk result (λ d. d.rest ≡ double_rest divisor.size.bits divisor.mode upper.pattern lower.pattern divisor.pattern) }
-    ensures refused { IsErr result ↔ CannotDivide divisor.size.bits divisor.mode upper.pattern lower.pattern divisor.pattern }
+    requires upper { AreAlike upper divisor }
+    requires lower { AreAlike lower divisor }
+    ensures quotient { IfOk result (λ d. d.quotient ≡ double_quotient divisor.size.bits divisor.mode
+        upper.pattern lower.pattern divisor.pattern) }
+    ensures rest { IfOk result (λ d. d.rest
+        ≡ double_rest divisor.size.bits divisor.mode upper.pattern lower.pattern divisor.pattern) }
+    ensures refused { IsErr result
+        ↔ CannotDivide divisor.size.bits divisor.mode upper.pattern lower.pattern divisor.pattern }
 {
     let first = double_value(divisor.size, divisor.mode, upper.pattern, lower.pattern);
     let second = Signed::of(divisor);
@@ -77,12 +81,12 @@ fn divide(upper: Word, lower: Word, divisor: Word) -> Result<Division, Error0>
 /// The number of two words, upper and lower, divided by a third and cut towards 0. The carry is set
 /// where a remainder is left.
 pub fn dbl_div(upper: Word, lower: Word, divisor: Word) -> Result<Answer, Error0>
-    requires upper_size { upper.size.bits ≡ divisor.size.bits }
-    requires upper_mode { upper.mode ≡ divisor.mode }
-    requires lower_size { lower.size.bits ≡ divisor.size.bits }
-    requires lower_mode { lower.mode ≡ divisor.mode }
-    ensures ok { IfOk result (λ a. a ≡ double_quotient_of divisor.size.bits divisor.mode upper.pattern lower.pattern divisor.pattern) }
-    ensures refused { IsErr result ↔ CannotDivide divisor.size.bits divisor.mode upper.pattern lower.pattern divisor.pattern }
+    requires upper { AreAlike upper divisor }
+    requires lower { AreAlike lower divisor }
+    ensures ok { IfOk result (λ a. a ≡ double_quotient_of divisor.size.bits divisor.mode
+        upper.pattern lower.pattern divisor.pattern) }
+    ensures refused { IsErr result
+        ↔ CannotDivide divisor.size.bits divisor.mode upper.pattern lower.pattern divisor.pattern }
 {
     let division = divide(upper, lower, divisor)?;
     Ok(Answer {
@@ -94,12 +98,12 @@ pub fn dbl_div(upper: Word, lower: Word, divisor: Word) -> Result<Answer, Error0
 
 /// What that division leaves, which has the sign of the number of two words.
 pub fn dbl_rmd(upper: Word, lower: Word, divisor: Word) -> Result<Answer, Error0>
-    requires upper_size { upper.size.bits ≡ divisor.size.bits }
-    requires upper_mode { upper.mode ≡ divisor.mode }
-    requires lower_size { lower.size.bits ≡ divisor.size.bits }
-    requires lower_mode { lower.mode ≡ divisor.mode }
-    ensures ok { IfOk result (λ a. a ≡ double_remainder_of divisor.size.bits divisor.mode upper.pattern lower.pattern divisor.pattern) }
-    ensures refused { IsErr result ↔ CannotDivide divisor.size.bits divisor.mode upper.pattern lower.pattern divisor.pattern }
+    requires upper { AreAlike upper divisor }
+    requires lower { AreAlike lower divisor }
+    ensures ok { IfOk result (λ a. a ≡ double_remainder_of divisor.size.bits divisor.mode
+        upper.pattern lower.pattern divisor.pattern) }
+    ensures refused { IsErr result
+        ↔ CannotDivide divisor.size.bits divisor.mode upper.pattern lower.pattern divisor.pattern }
 {
     let division = divide(upper, lower, divisor)?;
     Ok(Answer {

@@ -1,5 +1,8 @@
-//! Products of two words, and quotients and remainders of a number of two words by one, as the
-//! HP-16C Owner's Handbook has them.
+//! Products in two words, and division of a number of two words by one, as the HP-16C Owner's
+//! Handbook has them. The words are always of one size and read in one mode.
+//!
+//! - of two words: `dbl_mul`
+//! - of three words: `dbl_div`, `dbl_rmd`
 #![tactic(auto)]
 
 mod division;

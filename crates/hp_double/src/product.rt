@@ -1,8 +1,9 @@
-// The double product.
+// The product in two words: by sign and magnitude, and then as a pattern of twice the size.
 ghost use Rattle.std.specs.Prelude.{◌≡◌, ◌-◌, ◌*◌, ◌/◌, ◌%◌, ◌^◌, ◌<◌};
 ghost use Rattle.hp_model.specs.Words.{low};
-ghost use Rattle.hp_model.specs.Rows.{double_product};
+ghost use Rattle.hp_model.specs.WordOperations.{double_product};
 ghost use Rattle.hp_double.specs.Number.{number, two_words};
+ghost use Rattle.hp_words.specs.Alike.{AreAlike};
 
 use crate::signed::Signed;
 use hp_words::{Mode, Word, WordSize};
@@ -41,8 +42,7 @@ fn double_pattern(size: WordSize, mode: Mode, v: Signed) -> (u64, u64)
 
 /// The product of y and x in two words, the upper one first.
 pub fn dbl_mul(y: Word, x: Word) -> (u64, u64)
-    requires same_size { y.size.bits ≡ x.size.bits }
-    requires same_mode { y.mode ≡ x.mode }
+    requires alike { AreAlike y x }
     ensures { result ≡ double_product x.size.bits x.mode y.pattern x.pattern }
 {
     let product = Signed::of(y).times(Signed::of(x));

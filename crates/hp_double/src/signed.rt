@@ -2,11 +2,12 @@
 // quotient of one with a sign.
 ghost use Rattle.std.specs.Prelude.{◌≡◌, ◌≢◌, ◌^◌, ◌<◌, ◌≤◌, ◌*◌, ◌*ℤ◌, int_div, true};
 ghost use Rattle.hp_model.specs.Words.{value, fits as fits_in};
-ghost use Rattle.hp_model.specs.Rows.{rest_of};
+ghost use Rattle.hp_model.specs.WordOperations.{rest_of};
 ghost use Rattle.hp_double.specs.Number.{number};
 
 use hp_words::{Mode, Word, WordSize, fits};
 
+// A number of at most 128 bits beside its sign.
 #[derive(Clone, Copy)]
 pub struct Signed {
     pub negative: bool,
@@ -35,6 +36,7 @@ impl Signed {
         if self.negative { -magnitude } else { magnitude }
     }
 
+    // The product.
     pub fn times(self, other: Signed) -> Signed
         requires first { self.magnitude < 2 ^ 64 }
         requires second { other.magnitude < 2 ^ 64 }

@@ -1,5 +1,6 @@
 // Worked rows of every call.
 ghost use Rattle.std.specs.Prelude.{◌≡◌};
+ghost use Rattle.hp_words.specs.Alike.{AreAlike};
 
 use crate::{dbl_div, dbl_mul, dbl_rmd};
 use Call::{Div, Rmd};
@@ -13,10 +14,8 @@ enum Call {
 }
 
 fn done(call: Call, upper: Word, lower: Word, divisor: Word) -> Result<Answer, Error0>
-    requires upper_size { upper.size.bits ≡ divisor.size.bits }
-    requires upper_mode { upper.mode ≡ divisor.mode }
-    requires lower_size { lower.size.bits ≡ divisor.size.bits }
-    requires lower_mode { lower.mode ≡ divisor.mode }
+    requires upper { AreAlike upper divisor }
+    requires lower { AreAlike lower divisor }
 {
     match call {
         Div => dbl_div(upper, lower, divisor),

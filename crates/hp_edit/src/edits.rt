@@ -1,6 +1,6 @@
 // Edits of the program.
 ghost use Rattle.std.specs.Prelude.{◌≡◌, ◌+◌, ◌-◌, ◌≤◌, ◌==◌, ◌↔◌, length, insert as inserted, remove as removed, IsErr, OnOk, OnErr, IfOk, if◌then◌else◌};
-ghost use Rattle.hp_model.specs.State.{memory_bytes, blocks_of};
+ghost use Rattle.hp_model.specs.State.{blocks_of};
 ghost use Rattle.hp_model.specs.Memory.{edited};
 ghost use Rattle.hp_model.specs.Codes.{code_of};
 ghost use Rattle.hp_ops.specs.Meaning.{operation};
@@ -19,7 +19,7 @@ pub struct Full;
 pub fn insert(memory: &mut Memory, line: u16, op: Op) -> Result<u16, Full>
     requires line { line ≤ length memory.old.program }
     requires blocks { memory.old.blocks ≡ blocks_of (length memory.old.program) }
-    ensures full { IsErr result ↔ memory_bytes ≤ length memory.old.program }
+    ensures full { IsErr result ↔ memory.old.bytes ≤ length memory.old.program }
     ensures line { IfOk result (λ new_line. new_line ≡ line + 1) }
     ensures memory { OnOk result (memory.new ≡ edited (inserted memory.old.program line (code_of (operation op))) memory.old) }
     ensures unchanged { OnErr result (memory.new ≡ memory.old) }

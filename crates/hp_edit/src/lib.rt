@@ -7,4 +7,4 @@ mod lines;
 mod tests;
 
 pub use edits::{Full, delete, insert};
-pub use lines::{before, goto_line, next, op_at};
+pub use lines::{before, goto_line, next};

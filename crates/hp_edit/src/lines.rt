@@ -1,19 +1,7 @@
 // The lines of the program.
-ghost use Rattle.std.specs.Prelude.{◌≡◌, ◌+◌, ◌-◌, ◌<◌, ◌≤◌, ◌==◌, ◌↔◌, length, nat_lt, slice_index, IsNone, IfSome, if◌then◌else◌};
-ghost use Rattle.hp_model.specs.Codes.{operation_of};
-ghost use Rattle.hp_ops.specs.Meaning.{operation};
+ghost use Rattle.std.specs.Prelude.{◌≡◌, ◌+◌, ◌-◌, ◌<◌, ◌==◌, ◌↔◌, length, nat_lt, IsNone, IfSome, if◌then◌else◌};
 
 use hp_nibbles::Memory;
-use hp_ops::Op;
-
-/// The operation of a line.
-pub fn op_at(memory: &Memory, line: u16) -> Op
-    requires from_one { 1 ≤ line }
-    requires to_lines { line ≤ length memory.now.program }
-    ensures { operation result ≡ operation_of (slice_index memory.now.program (line - 1)) }
-{
-    Op::of_code(memory.line(line)).unwrap()
-}
 
 /// The line after one, from the last to line 0.
 pub fn next(memory: &Memory, line: u16) -> u16

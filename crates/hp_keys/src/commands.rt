@@ -1,4 +1,5 @@
-// What keys ask for.
+// What keys ask for, once a command's keys are all pressed: hp_run does it, in run mode or in program
+// mode.
 use hp_model::Base;
 use hp_ops::Op;
 

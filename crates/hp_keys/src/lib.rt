@@ -1,5 +1,5 @@
-//! The keys of the HP-16C: their words in a key file, what each means by itself and after a shift, and
-//! the prefixes of commands that take several keys.
+//! The keys of the HP-16C: what each means by itself and after a shift, and the prefixes of commands that
+//! take several keys. Their words in a key file stand with them in hp_model.
 #![tactic(auto)]
 
 mod commands;
@@ -8,9 +8,11 @@ mod operands;
 mod prefixes;
 #[cfg(test)]
 mod tests;
-mod words;
 
-pub use commands::{Command, Pressed, Shift};
-pub use hp_model::{Key, View};
+// A key, and the prefix that it is pressed with.
+pub use hp_model::Key;
 pub use prefixes::{Prefix, press_key};
-pub use words::key_of_word;
+
+// What a key gives, and what the display shows after a command.
+pub use commands::{Command, Pressed, Shift};
+pub use hp_model::View;

@@ -1,4 +1,4 @@
-// What a key means by itself, after f and after g.
+// What a key means by itself, after f and after g: the keyboard's table, which prefixes begin from.
 ghost use Rattle.std.specs.Prelude.{◌≡◌, ◌<◌};
 ghost use Rattle.hp_model.specs.Operations as ops;
 ghost use Rattle.hp_model.specs.Keys.{does, plainly as plainly_of, shifted_f as shifted_f_of, shifted_g as shifted_g_of};

@@ -1,4 +1,4 @@
-// Keys as operands of a prefix.
+// Keys as operands of a prefix: a digit, the point, or one of the keys that stand for I, (i) and f.
 ghost use Rattle.std.specs.Prelude.{◌≡◌, ◌<◌};
 ghost use Rattle.hp_model.specs.Prefixes.{operand_of as operand_of_key, number};
 ghost use Rattle.hp_keys.specs.Operands.{operand_means};

@@ -1,4 +1,5 @@
-// Prefixes: commands that take several keys.
+// Prefixes: which keys a pending one takes, and the command that they make. A key that doesn't fit drops
+// it.
 ghost use Rattle.std.specs.Prelude.{◌≡◌, ◌≢◌, ◌+◌, ◌<◌, ◌↔◌, IsTrue};
 ghost use Rattle.hp_model.specs.Keys as keys;
 ghost use Rattle.hp_model.specs.Prefixes.{press_key as press_key_of, taken, ends, needs as needs_of, operates as operates_of, meant as meant_of, after_register_key, after_number_key, after_call, after_goto as after_goto_of, with_line_digit as with_line_digit_of, after_line_digits as after_line_digits_of};

@@ -1,11 +1,11 @@
 // Keys as a teacher would press them.
-use crate::{Command, Key, Prefix, Pressed, Shift, key_of_word, press_key};
+use crate::{Command, Key, Prefix, Pressed, Shift, press_key};
 use hp_ops::{Jump, Op};
 
 #[test]
 fn keys_make_commands(rt: HostRuntime) {
-    assert_eq!(rt; key_of_word(b"x<>y"), Some(Key::Exchange));
-    assert_eq!(rt; key_of_word(b"EEX"), None);
+    assert_eq!(rt; Key::of_word(b"x<>y"), Some(Key::Exchange));
+    assert_eq!(rt; Key::of_word(b"EEX"), None);
     let mut prefix = Prefix::new();
     assert_eq!(rt; press_key(&mut prefix, Key::ShiftG), Pressed::More);
     assert_eq!(rt; prefix.shift(), Shift::G);

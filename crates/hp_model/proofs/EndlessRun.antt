@@ -3,14 +3,14 @@ use Rattle.std.specs.Prelude.{◌≡◌, ℕ, zero, suc, ◌*◌, [], ◌∷◌,
 use Rattle.std.specs.Fmt.{digits}
 use Rattle.std.proofs.Common.{◌∙◌, suc-mul}
 use native.Mathlib.Numerals.{add-two}
-use Rattle.hp_model.specs.State.{Machine, reset}
+use Rattle.hp_model.specs.State.{Machine, standard_bytes, reset}
 use Rattle.hp_model.specs.Run.{run}
 use Rattle.hp_model.specs.Press.{lines_per_key, reprogrammed}
 use Rattle.hp_model.specs.WorkedKeyFiles.{Prints}
 
 -- the machine with the program LBL 0, GTO 0 at line 1
 abbrev pub looping : Machine
-looping = reprogrammed (92 ∷ 108 ∷ []) 1 reset
+looping = reprogrammed (92 ∷ 108 ∷ []) 1 (reset standard_bytes)
 
 pub two_lines : (n : ℕ) → run (suc (suc n)) looping ≡ run n looping
 two_lines n = refl

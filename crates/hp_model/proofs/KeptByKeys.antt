@@ -18,7 +18,7 @@ use Rattle.hp_model.specs.Codes.{code_of}
 use Rattle.hp_model.specs.declared.View.TheVariants.{Normal}
 use Rattle.hp_model.specs.declared.Key.{Key}
 use Rattle.hp_model.specs.Prefixes.{press_key}
-use Rattle.hp_model.specs.Wrote.{wrote, wrote_by, wrote_of, all_wrote, pressed_all, operated_all, all_write, writes, unless_error, any_writes, trace_from, trace_after, done_by_operation, done_by, is_of_program, edits}
+use Rattle.hp_model.specs.WrittenNibbles.{wrote, wrote_by, wrote_of, all_wrote, pressed_all, operated_all, all_write, writes, unless_error, any_writes, trace_from, trace_after, done_by_operation, done_by, is_of_program, edits}
 use Rattle.hp_model.proofs.KeptNibbles.{step-nibble}
 use Rattle.hp_model.proofs.Runs.{run-goes, run-ends}
 
@@ -117,13 +117,13 @@ in_run_mode-nibble _ m j h = refl
 
 -- ---- commands in program mode
 
-resized-below : (blocks : ℕ) (nibbles : List ℕ) (j : ℕ) → j < register_nibbles blocks → slice_index (resized blocks nibbles) j ≡ slice_index nibbles j
-resized-below blocks nibbles j below = by_place (nat_lt j (length nibbles)) refl
+resized-below : (bytes blocks : ℕ) (nibbles : List ℕ) (j : ℕ) → j < register_nibbles bytes blocks → slice_index (resized bytes blocks nibbles) j ≡ slice_index nibbles j
+resized-below bytes blocks nibbles j below = by_place (nat_lt j (length nibbles)) refl
   where
     n : ℕ
-    n = register_nibbles blocks
+    n = register_nibbles bytes blocks
 
-    by_place : (t : Bool) → nat_lt j (length nibbles) ≡ t → slice_index (resized blocks nibbles) j ≡ slice_index nibbles j
+    by_place : (t : Bool) → nat_lt j (length nibbles) ≡ t → slice_index (resized bytes blocks nibbles) j ≡ slice_index nibbles j
     by_place true inside =
         let short : j < length (take n nibbles) = grind (arith, nat_tests, length-take n nibbles, inside) in
         get_or_append_left (take n nibbles) (replicate (n - length nibbles) 0) 0 j short ∙ get_or-take n nibbles j 0 below
@@ -135,7 +135,7 @@ resized-below blocks nibbles j below = by_place (nat_lt j (length nibbles)) refl
         ∙ sym (get_or_past nibbles j 0 above))
 
 reprogrammed-nibble : (program : List ℕ) (line : ℕ) (m : Machine) (j : ℕ) → is_of_program (reprogrammed program line m) j ≡ false → IsKept j m (reprogrammed program line m)
-reprogrammed-nibble program line m j after = resized-below (blocks_of (length program)) m.contents.nibbles j (grind (arith, nat_tests, after))
+reprogrammed-nibble program line m j after = resized-below m.control.bytes (blocks_of (length program)) m.contents.nibbles j (grind (arith, nat_tests, after))
 
 not_edited : (edit before after : Bool) → edit ≡ true → (edit && (before || after)) ≡ false → after ≡ false
 not_edited true before after h unwritten = (neither before after unwritten).1

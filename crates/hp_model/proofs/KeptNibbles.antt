@@ -1,7 +1,7 @@
 -- No operation changes a nibble that it doesn't write.
-use Rattle.std.proofs.Common.{◌≡◌, ℕ, ◌≤◌, ◌<◌, Bool, true, false, nat_lt, List, Option, Some, None, length, slice_index, refl, sym, ◌∙◌, ap, arith, if◌then◌else◌}
+use Rattle.std.proofs.Common.{◌≡◌, ℕ, ◌≤◌, ◌<◌, Bool, true, false, nat_lt, List, Option, Some, None, length, replicate, slice_index, refl, sym, ◌∙◌, ap, arith, if◌then◌else◌}
 use Rattle.std.proofs.lemmas.Bool.Decides.{nat_tests}
-use Rattle.std.proofs.lemmas.List.{get_or_past}
+use Rattle.std.proofs.lemmas.List.{get_or_past, length-replicate}
 use Rattle.hp_model.specs.declared.Answer.{Answer}
 use Rattle.hp_model.specs.declared.End.TheVariants.{Error}
 use Rattle.hp_model.specs.declared.Stop.TheVariants.{Ended}
@@ -12,9 +12,9 @@ use Rattle.hp_model.specs.State.{Control, Data, Machine, carry}
 use Rattle.hp_model.specs.Memory.{is_of_register, nibble_written, with_register}
 use Rattle.hp_model.specs.DataStep.{changed, entered, answered, set_if_told, pushed, lifted, with_x, dropped, saved, is_error, read_place}
 use Rattle.hp_model.specs.ControlStep.{control_step, erred_or_done, error_of, is_ignored, longer_entry}
-use Rattle.hp_model.specs.Asks.{answers, x_magnitude}
-use Rattle.hp_model.specs.Rows.{shifted_arithmetic_of, rotated_times_of}
-use Rattle.hp_model.specs.Wrote.{writes, may_write}
+use Rattle.hp_model.specs.Questions.{answers, x_magnitude}
+use Rattle.hp_model.specs.WordOperations.{shifted_arithmetic_of, rotated_times_of}
+use Rattle.hp_model.specs.WrittenNibbles.{writes, is_writer, may_write}
 use Rattle.hp_model.proofs.Tabulated.{get-tabulated, get-tabulated_past}
 
 pub set_if_told-nibbles : (n : ℕ) (told : Option Bool) (d : Data) → (set_if_told n told d).nibbles ≡ d.nibbles
@@ -30,14 +30,6 @@ pushed-nibbles c x d = by_lift c.lift
     by_lift : (t : Bool) → (with_x x (if t then lifted d else d)).nibbles ≡ d.nibbles
     by_lift true = refl
     by_lift false = refl
-
--- an operation that writes no register at all
-abbrev pub is_writer : Operation → Bool
-is_writer (ops.store (ops.register r)) = true
-is_writer (ops.store ops.through_index) = true
-is_writer ops.exchange_through = true
-is_writer ops.clear_registers = true
-is_writer _ = false
 
 entered-nibbles : (number : ℕ) (c : Control) (entry : Option ℕ) (d : Data) → (entered number c entry d).nibbles ≡ d.nibbles
 entered-nibbles number c None d = pushed-nibbles c number d
@@ -85,7 +77,10 @@ special-nibble : (op : Operation) (given : List Bool) (m : Machine) (j : ℕ) �
 special-nibble (ops.store (ops.register r)) given m j h = with_register-outside m.control.size m.contents.nibbles r m.contents.x j h
 special-nibble (ops.store ops.through_index) given m j h = with_register-outside m.control.size m.contents.nibbles m.contents.index m.contents.x j h
 special-nibble ops.exchange_through given m j h = with_register-outside m.control.size m.contents.nibbles m.contents.index m.contents.x j h
-special-nibble ops.clear_registers given m j h = cc
+special-nibble ops.clear_registers given m j h =
+    let past : length m.contents.nibbles ≤ j = grind (arith, nat_tests, h) in
+    get_or_past (replicate (length m.contents.nibbles) 0) j 0 (omega (arith, length-replicate {A = ℕ} (length m.contents.nibbles) 0))
+    ∙ sym (get_or_past m.contents.nibbles j 0 past)
 special-nibble (ops.store ops.index_register) given m j h = refl
 special-nibble op given m j h = ap (λ nibbles. slice_index nibbles j) (changed-nibbles m.control op given m.contents refl)
 

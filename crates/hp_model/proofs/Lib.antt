@@ -13,4 +13,5 @@ pub mod WordValues
 pub mod Roots
 pub mod Rotations
 pub mod Registers
-pub mod WholeAnswers
+pub mod CompleteAnswers
+pub mod Unwritten

@@ -2,7 +2,7 @@
 use Rattle.std.proofs.Common.{◌≡◌, ℕ, zero, suc, ◌+◌, ◌*◌, ◌^◌, ◌≤◌, ◌<◌, Bool, true, false, nat_le, refl, arith}
 use Rattle.std.proofs.lemmas.Bool.Decides.{nat_tests}
 use Rattle.std.proofs.Math.Nat.{pow-suc}
-use Rattle.hp_model.specs.Rows.{root, root_from}
+use Rattle.hp_model.specs.WordOperations.{root, root_from}
 use Rattle.hp_model.specs.Laws.{IsRoot}
 
 -- the search with k bits left finds it where it lies below its start plus 2 ^ k

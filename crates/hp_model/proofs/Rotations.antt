@@ -5,7 +5,7 @@ use Rattle.std.proofs.lemmas.Nat.{mod-pow-add, mod-mul-add}
 use Rattle.std.proofs.lemmas.Bool.Decides.{nat_tests}
 use Rattle.hp_model.specs.Operations as ops
 use Rattle.hp_model.specs.Words.{bit}
-use Rattle.hp_model.specs.Rows.{turned, top_bit, bit_number}
+use Rattle.hp_model.specs.WordOperations.{turned, top_bit, bit_number}
 use Rattle.hp_model.proofs.WordValues.{doubled}
 
 -- a bit as a number

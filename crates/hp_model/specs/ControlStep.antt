@@ -12,7 +12,7 @@ use Rattle.hp_model.specs.Words.{number_of_bits}
 use Rattle.hp_model.specs.Operations.{Target, Place, Operation}
 use Rattle.hp_model.specs.Operations as ops
 use Rattle.hp_model.specs.Codes.{code_of}
-use Rattle.hp_model.specs.State.{Control, lines, radix, register_count}
+use Rattle.hp_model.specs.State.{Control, lines, radix, registers}
 
 -- ---- digit entry
 
@@ -70,10 +70,10 @@ gosub_error None calls = Some 4
 gosub_error (Some line) calls = error_if 5 (nat_le 4 (length calls))
 
 abbrev pub place_error : Control → Place → List Bool → Option ℕ
-place_error c (ops.register r) given = error_if 3 (nat_le (register_count c.size c.blocks) r)
+place_error c (ops.register r) given = error_if 3 (nat_le (registers c) r)
 place_error c ops.index_register given = None
 place_error c ops.through_index given =
-    error_if 3 (answer_at 0 given || nat_le (register_count c.size c.blocks) (number_given given))
+    error_if 3 (answer_at 0 given || nat_le (registers c) (number_given given))
 
 -- the error of an operation, if it errs
 abbrev pub error_of : Control → Operation → List Bool → Option ℕ

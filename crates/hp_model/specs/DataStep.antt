@@ -8,8 +8,8 @@ use Rattle.hp_model.specs.Operations.{Place, Operation}
 use Rattle.hp_model.specs.Operations as ops
 use Rattle.hp_model.specs.State.{Control, Data, carry, with_flag}
 use Rattle.hp_model.specs.Memory.{register_value, with_register}
-use Rattle.hp_model.specs.Rows.{plain, sum_of, difference_of, product_of, quotient_of, remainder_of, negation_of, absolute_of, root_of, double_product, double_quotient_of, double_remainder_of, shifted_left_of, shifted_right_of, shifted_arithmetic_of, rotated_of, rotated_times_of, left_shifts, ones_below, mask_left_pattern, mask_right_pattern, with_bit, without_bit}
-use Rattle.hp_model.specs.Asks.{x_magnitude, decremented, incremented}
+use Rattle.hp_model.specs.WordOperations.{plain, sum_of, difference_of, product_of, quotient_of, remainder_of, negation_of, absolute_of, root_of, double_product, double_quotient_of, double_remainder_of, shifted_left_of, shifted_right_of, shifted_arithmetic_of, rotated_of, rotated_times_of, left_shifts, ones_below, mask_left_pattern, mask_right_pattern, with_bit, without_bit}
+use Rattle.hp_model.specs.Questions.{x_magnitude, decremented, incremented}
 use Rattle.hp_model.specs.ControlStep.{control_step, is_ignored, longer_entry}
 
 -- ---- the stack

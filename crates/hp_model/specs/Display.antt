@@ -9,7 +9,7 @@ use Rattle.hp_model.specs.declared.View.TheVariants.{Normal, Show, Status, Mem, 
 use Rattle.hp_model.specs.Words.{value, magnitude, is_negative_zero}
 use Rattle.hp_model.specs.Texts.{digit_text, text_of}
 use Rattle.hp_model.specs.Codes.{operation_of}
-use Rattle.hp_model.specs.State.{Control, Data, Machine, lines, flag, radix, register_count}
+use Rattle.hp_model.specs.State.{Control, Data, Machine, lines, flag, radix, registers}
 use Rattle.hp_model.specs.Keys.{Prefix}
 use Rattle.hp_model.specs.Keys as keys
 use Rattle.hp_model.specs.Press.{Calculator}
@@ -98,7 +98,7 @@ status_text m =
 
 abbrev pub memory_text : Control → List ℕ
 memory_text c =
-    codes "P-" ++ decimal (7 * c.blocks - lines c) ++ codes " r-" ++ decimal (register_count c.size c.blocks)
+    codes "P-" ++ decimal (7 * c.blocks - lines c) ++ codes " r-" ++ decimal (registers c)
 
 -- the display of a calculator
 abbrev pub display_of : View → Calculator → List ℕ

@@ -1,5 +1,7 @@
--- The words of a key file.
+-- The words of a key file: those that name keys, and the two that name a machine.
 use Rattle.std.specs.Prelude.{ℕ, if◌then◌else◌, List, [], ◌∷◌, codes, bytes_eq, Option, Some, None}
+use Rattle.hp_model.specs.declared.Extent.{Extent}
+use Rattle.hp_model.specs.declared.Extent.TheVariants.{Standard, Large}
 use Rattle.hp_model.specs.declared.Key.{Key}
 use Rattle.hp_model.specs.declared.Key.TheVariants.{Digit0, Digit1, Digit2, Digit3, Digit4, Digit5, Digit6, Digit7, Digit8, Digit9, DigitA, DigitB, DigitC, DigitD, DigitE, DigitF, Plus, Minus, Times, Divide, Enter, ChangeSign, Point, ShiftF, ShiftG, Gosub, Goto, ToHex, ToDec, ToOct, ToBin, RunStop, SingleStep, RollDown, Exchange, Backspace, On, Store, Recall}
 
@@ -22,3 +24,8 @@ key_in (entry ∷ entries) word = if bytes_eq entry.0 word then Some entry.1 els
 
 abbrev pub key_of_word : List ℕ → Option Key
 key_of_word word = key_in words word
+
+-- the size of memory of the machine that a word names
+abbrev pub extent_of_word : List ℕ → Option Extent
+extent_of_word word =
+    if bytes_eq (codes "M203") word then Some Standard else if bytes_eq (codes "M609") word then Some Large else None

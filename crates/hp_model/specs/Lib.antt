@@ -5,8 +5,8 @@ pub mod Codes
 pub mod Texts
 pub mod State
 pub mod Memory
-pub mod Rows
-pub mod Asks
+pub mod WordOperations
+pub mod Questions
 pub mod ControlStep
 pub mod DataStep
 pub mod Run
@@ -19,5 +19,5 @@ pub mod Session
 pub mod WorkedKeyFiles
 pub mod WorkedAnswers
 pub mod WorkedMemory
-pub mod Wrote
+pub mod WrittenNibbles
 pub mod Laws

@@ -1,7 +1,7 @@
 -- Memory: registers as digits to the base 16 in a list of nibbles, and the program below the end.
-use Rattle.std.specs.Prelude.{ℕ, zero, suc, ◌+◌, ◌-◌, ◌*◌, ◌/◌, ◌%◌, ◌^◌, List, ◌++◌, length, take, replicate, slice_index, ◌==◌, nat_lt, nat_le, Bool, ◌&&◌, if◌then◌else◌}
+use Rattle.std.specs.Prelude.{ℕ, zero, suc, ◌+◌, ◌-◌, ◌*◌, ◌/◌, ◌%◌, ◌^◌, List, [], ◌++◌, length, take, replicate, slice_index, ◌==◌, nat_lt, nat_le, Bool, ◌&&◌, if◌then◌else◌}
 use Rattle.hp_model.specs.Lists.{tabulated}
-use Rattle.hp_model.specs.State.{memory_bytes, width, register_nibbles, blocks_of}
+use Rattle.hp_model.specs.State.{width, register_nibbles, blocks_of}
 
 -- the sum of f j times 16 to the j, over j below k
 abbrev pub nibble_sum : (ℕ → ℕ) → ℕ → ℕ
@@ -24,15 +24,20 @@ nibble_written w nibbles r v j =
 abbrev pub with_register : ℕ → List ℕ → ℕ → ℕ → List ℕ
 with_register w nibbles r v = tabulated (nibble_written w nibbles r v) (length nibbles)
 
--- memory as a whole: the program's codes, the blocks that it has, and the register nibbles
+-- memory as a whole: its bytes, the program's codes, the blocks that the program has, and the register nibbles
 pub record Memory : Type 0 where
+  pub bytes : ℕ
   pub program : List ℕ
   pub blocks : ℕ
   pub nibbles : List ℕ
 
+-- memory where everything is zero
+abbrev pub empty_memory : ℕ → Memory
+empty_memory bytes = record { bytes = bytes; program = []; blocks = 0; nibbles = replicate (register_nibbles bytes 0) 0 }
+
 -- byte b of the program. Its lines begin at the last byte and grow downwards, and a byte with no line is zero
 abbrev pub program_byte : Memory → ℕ → ℕ
-program_byte m b = slice_index m.program (memory_bytes - 1 - b)
+program_byte m b = slice_index m.program (m.bytes - 1 - b)
 
 -- the lower half of a byte at an even place, and else the upper one
 abbrev pub half_of : ℕ → ℕ → ℕ
@@ -41,18 +46,19 @@ half_of byte place = if place % 2 == 0 then byte % 16 else byte / 16
 -- nibble j of the whole memory
 abbrev pub nibble_of : Memory → ℕ → ℕ
 nibble_of m j =
-    if nat_lt j (register_nibbles m.blocks) then slice_index m.nibbles j else half_of (program_byte m (j / 2)) j
+    if nat_lt j (register_nibbles m.bytes m.blocks) then slice_index m.nibbles j else half_of (program_byte m (j / 2)) j
 
 -- the register nibbles after the program takes another number of blocks: those that stay keep their value, and
 -- those that come back are zero
-abbrev pub resized : ℕ → List ℕ → List ℕ
-resized blocks nibbles =
-    take (register_nibbles blocks) nibbles ++ replicate (register_nibbles blocks - length nibbles) 0
+abbrev pub resized : ℕ → ℕ → List ℕ → List ℕ
+resized bytes blocks nibbles =
+    take (register_nibbles bytes blocks) nibbles ++ replicate (register_nibbles bytes blocks - length nibbles) 0
 
 -- memory with another program, whose blocks are as many as it needs
 abbrev pub edited : List ℕ → Memory → Memory
 edited program m = record {
+  bytes = m.bytes;
   program = program;
   blocks = blocks_of (length program);
-  nibbles = resized (blocks_of (length program)) m.nibbles;
+  nibbles = resized m.bytes (blocks_of (length program)) m.nibbles;
 }

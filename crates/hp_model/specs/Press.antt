@@ -10,7 +10,7 @@ use Rattle.hp_model.specs.declared.Key.{Key}
 use Rattle.hp_model.specs.Operations.{Target, Operation}
 use Rattle.hp_model.specs.Operations as ops
 use Rattle.hp_model.specs.Codes.{code_of}
-use Rattle.hp_model.specs.State.{Control, Machine, memory_bytes, lines, radix, reset, blocks_of}
+use Rattle.hp_model.specs.State.{Control, Machine, lines, radix, reset, blocks_of}
 use Rattle.hp_model.specs.Memory.{resized}
 use Rattle.hp_model.specs.ControlStep.{entry_ended}
 use Rattle.hp_model.specs.DataStep.{with_x}
@@ -25,8 +25,9 @@ pub record Calculator : Type 0 where
   pub programming : Bool
   pub view : View
 
-abbrev pub new_calculator : Calculator
-new_calculator = record { machine = reset; prefix = keys.nothing_pending; programming = false; view = Normal }
+-- with so many bytes of memory
+abbrev pub new_calculator : ℕ → Calculator
+new_calculator bytes = record { machine = reset bytes; prefix = keys.nothing_pending; programming = false; view = Normal }
 
 -- what a command gives: the machine and the view, with program mode as it was
 pub record Shown : Type 0 where
@@ -122,12 +123,12 @@ reprogrammed program line m =
     let blocks = blocks_of (length program) in
     record {
       control = record m.control { program = program; blocks = blocks; line = line; calls = [] };
-      contents = record m.contents { nibbles = resized blocks m.contents.nibbles };
+      contents = record m.contents { nibbles = resized m.control.bytes blocks m.contents.nibbles };
     }
 
 -- whether the program has as many lines as memory has bytes
 abbrev pub is_full : Machine → Bool
-is_full m = nat_le memory_bytes (lines m.control)
+is_full m = nat_le m.control.bytes (lines m.control)
 
 abbrev pub inserted : Operation → Machine → Shown
 inserted op m =

@@ -8,7 +8,7 @@ use Rattle.hp_model.specs.Operations.{Operation}
 use Rattle.hp_model.specs.Operations as ops
 use Rattle.hp_model.specs.Codes.{operation_of}
 use Rattle.hp_model.specs.State.{Control, Machine, lines}
-use Rattle.hp_model.specs.Asks.{answers}
+use Rattle.hp_model.specs.Questions.{IsComplete, answers}
 use Rattle.hp_model.specs.ControlStep.{control_step}
 use Rattle.hp_model.specs.DataStep.{data_step}
 
@@ -46,6 +46,10 @@ advanced c = at_line_number (min (c.line + 1) (lines c + 1)) c
 abbrev pub restored : ℕ → Control × Stop → Control × Stop
 restored line (c, Ended (Error n)) = (at_line_number line c, Ended (Error n))
 restored line (c, stop) = (c, stop)
+
+-- these are answers to exactly what the next line asks
+abbrev pub IsCompleteLine : Control → List Bool → Type 0
+IsCompleteLine c given = IsComplete (advanced c) (next_operation c) given
 
 -- control after the next line, from the answers to what its operation asks
 abbrev pub control_done : Control → List Bool → Control × Stop

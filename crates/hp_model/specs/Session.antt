@@ -1,6 +1,8 @@
 -- Key files: what is written for a list of bytes, and how it ends.
-use Rattle.std.specs.Prelude.{ℕ, ◌+◌, Bool, false, true, not, ◌||◌, ◌==◌, nat_lt, nat_le, if◌then◌else◌, List, [], ◌∷◌, ◌++◌, length, take, Some, None}
-use Rattle.hp_model.specs.KeyWords.{key_of_word}
+use Rattle.std.specs.Prelude.{ℕ, ◌+◌, Bool, false, true, not, ◌||◌, ◌==◌, nat_lt, nat_le, if◌then◌else◌, List, [], ◌∷◌, ◌++◌, length, take, Option, Some, None, option_map}
+use Rattle.hp_model.specs.declared.Extent.{Extent}
+use Rattle.hp_model.specs.KeyWords.{key_of_word, extent_of_word}
+use Rattle.hp_model.specs.State.{standard_bytes, memory_bytes}
 use Rattle.hp_model.specs.Press.{Calculator, new_calculator, press}
 use Rattle.hp_model.specs.Display.{display}
 
@@ -53,14 +55,26 @@ ending end = record { text = []; ended = end }
 abbrev pub preceded : List ℕ → Session → Session
 preceded text rest = record { text = text ++ rest.text; ended = rest.ended }
 
--- the parts in order: the calculator and the line's number change, and each line gives a display
-abbrev pub session_of : SessionEnd → Calculator → ℕ → List Part → Session
-session_of end s line [] = ending end
-session_of end s line (word w ∷ parts) = elim (key_of_word w) [
-  | None ↦ ending (bad_word line (take 8 w))
-  | Some key ↦ session_of end (press s key) line parts
+-- the machine that a word names. Only the first word of the first line may name one
+abbrev pub machine_named : Bool → List ℕ → Option Extent
+machine_named first w = if first then extent_of_word w else None
+
+-- the calculator after a word: the new one that it names, or with its key pressed
+abbrev pub after_word : Bool → Calculator → List ℕ → Option Calculator
+after_word first s w = elim (machine_named first w) [
+  | Some extent ↦ Some (new_calculator (memory_bytes extent))
+  | None ↦ option_map (press s) (key_of_word w)
 ]
-session_of end s line (line_end ∷ parts) = preceded (display s ++ 10 ∷ []) (session_of end s (line + 1) parts)
+
+-- the parts in order: the calculator and the line's number change, and each line gives a display. `first` says whether the
+-- first word of the first line is still to come
+abbrev pub session_of : SessionEnd → Bool → Calculator → ℕ → List Part → Session
+session_of end first s line [] = ending end
+session_of end first s line (word w ∷ parts) = elim (after_word first s w) [
+  | None ↦ ending (bad_word line (take 8 w))
+  | Some after ↦ session_of end false after line parts
+]
+session_of end first s line (line_end ∷ parts) = preceded (display s ++ 10 ∷ []) (session_of end false s (line + 1) parts)
 
 -- the greatest number of bytes of a key file
 abbrev pub byte_limit : ℕ
@@ -68,7 +82,7 @@ byte_limit = 1000000
 
 -- what bytes give that are the whole file, or the front of one
 abbrev pub session_from : SessionEnd → Bool → List ℕ → Session
-session_from end whole bytes = session_of end new_calculator 1 (parts_of whole bytes)
+session_from end whole bytes = session_of end true (new_calculator standard_bytes) 1 (parts_of whole bytes)
 
 -- what a key file gives, where so many bytes are the limit
 abbrev pub session_within : ℕ → List ℕ → Session

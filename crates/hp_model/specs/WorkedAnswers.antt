@@ -1,14 +1,21 @@
--- Worked rows of the operation table.
-use Rattle.std.specs.Prelude.{◌≡◌, ℕ, ◌-◌, ◌^◌, Bool, true, false, Some, None}
+-- Worked rows of the operation table, and lists of answers.
+use Rattle.std.specs.Prelude.{◌≡◌, ℕ, ◌-◌, ◌^◌, Bool, true, false, List, [], ◌∷◌, replicate, Some, None}
 use Rattle.hp_model.specs.declared.Answer.{Answer}
 use Rattle.hp_model.specs.declared.Mode.TheVariants.{Unsigned, Ones, Twos}
+use Rattle.hp_model.specs.Operations.{Operation}
 use Rattle.hp_model.specs.Operations as ops
-use Rattle.hp_model.specs.Words.{value, fits}
-use Rattle.hp_model.specs.Rows.{plain, carrying, sum_of, difference_of, product_of, quotient_of, remainder_of, negation_of, absolute_of, root_of, double_product, double_quotient, double_quotient_of, double_remainder_of, shifted_arithmetic_of, rotated_of, rotated_times_of, left_shifts, ones_below, mask_left_pattern, mask_right_pattern}
+use Rattle.hp_model.specs.State.{standard_bytes, large_bytes, reset}
+use Rattle.hp_model.specs.Questions.{questions, are_complete}
+use Rattle.hp_model.specs.Words.{fits}
+use Rattle.hp_model.specs.WordOperations.{plain, carrying, sum_of, difference_of, product_of, quotient_of, remainder_of, negation_of, absolute_of, root_of, double_product, double_quotient, double_quotient_of, double_remainder_of, shifted_arithmetic_of, rotated_of, rotated_times_of, left_shifts, ones_below, mask_left_pattern, mask_right_pattern}
 
 -- a pattern with both flags told
 abbrev pub flagged : ℕ → Bool → Bool → Answer
 flagged p carry range = record { pattern = p; carry = Some carry; range = Some range }
+
+-- whether these answer all that an operation asks of a new machine
+abbrev pub answer_all : ℕ → Operation → List Bool → Bool
+answer_all bytes op given = are_complete (questions (reset bytes).control op) given
 
 pub record WorkedAnswers : Type 0 where
   -- one's complement has its carry come around
@@ -43,3 +50,11 @@ pub record WorkedAnswers : Type 0 where
   pub ones : ones_below 64 (2 ^ 64 - 1) ≡ 64
   pub whole_mask : mask_left_pattern 4 4 ≡ 15
   pub no_mask : mask_right_pattern 0 ≡ 0
+  -- complete answers: ten for the register that RI names, or twelve in the larger machine, or one yes that means an error
+  pub ten_answers : answer_all standard_bytes ops.exchange_through (replicate 10 false) ≡ true
+  pub twelve_answers : answer_all large_bytes ops.exchange_through (replicate 12 false) ≡ true
+  pub too_few_answers : answer_all large_bytes ops.exchange_through (replicate 10 false) ≡ false
+  pub too_many_answers : answer_all standard_bytes ops.exchange_through (replicate 12 false) ≡ false
+  pub yes_is_an_error : answer_all standard_bytes ops.exchange_through (true ∷ []) ≡ true
+  pub nothing_after_an_error : answer_all standard_bytes ops.exchange_through (true ∷ false ∷ []) ≡ false
+  pub nothing_asked : answer_all standard_bytes ops.add [] ≡ true

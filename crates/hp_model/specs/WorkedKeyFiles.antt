@@ -60,3 +60,17 @@ pub record WorkedKeyFiles : Type 0 where
   pub full_program : Prints
       (codes "g R/S " ++ repeated 203 (codes "+ ") ++ codes "\nf 0\n+\ng R/S STO 0\n") (codes "203 + PRGM\nP-0 r-0\nError 4\nError 3\n")
   pub endless_run : Prints (codes "g R/S g GTO 0 GTO 0 g R/S\nGSB 0\n") (codes "0 h\nError 8\n")
+  -- the machine of 609 bytes
+  pub large_memory : Prints (codes "M609 f 0\ng R/S +\nf 0\n") (codes "P-0 r-304\n001 + PRGM\nP-6 r-301\n")
+  pub large_nibbles : Prints (codes "M609 4 f STO f 0\n") (codes "P-0 r-1218\n")
+  pub large_index : Prints
+      (codes "M609 4 C 1 STO SST 4 f STO 7 STO R/S\ng BSP\nRCL R/S\n") (codes "7 h\n0 h\n7 h\n")
+  pub standard_index : Prints (codes "M203 4 C 1 STO SST 4 f STO 7 STO R/S\n") (codes "Error 3\n")
+  pub standard_memory : Prints (codes "M203 4 f STO f 0\n") (codes "P-0 r-406\n")
+  pub machine_on_second_line : session (codes "1\nM609\n") ≡ record { text = codes "1 h\n"; ended = bad_word 2 (codes "M609") }
+  pub machine_as_second_word : session (codes "1 M609\n") ≡ record { text = []; ended = bad_word 1 (codes "M609") }
+  pub machine_named_twice : session (codes "M609 M609\n") ≡ record { text = []; ended = bad_word 1 (codes "M609") }
+  pub machine_after_an_empty_line : session (codes "\nM203\n") ≡ record { text = codes "0 h\n"; ended = bad_word 2 (codes "M203") }
+  pub machine_alone : Prints (codes " M609") (codes "0 h\n")
+  pub full_large_program : Prints
+      (codes "M609 g R/S " ++ repeated 609 (codes "+ ") ++ codes "\nf 0\n+\ng R/S STO 0\n") (codes "609 + PRGM\nP-0 r-0\nError 4\nError 3\n")

@@ -1,5 +1,5 @@
 // Each function's contract is a law of the definitions in specs/. The functions do nothing.
-ghost use Rattle.hp_model.specs.Laws.{PatternsAndNumbers, NegativeZero, RegistersReadBack, Restoration, CodesAndOperations, AnswersAreWhole, RotationsAreInverse, RootsAreWhole, Steps};
+ghost use Rattle.hp_model.specs.Laws.{PatternsAndNumbers, NegativeZero, RegistersReadBack, Restoration, WritesNothingElse, CodesAndOperations, CompleteAnswers, RotationsAreInverse, RootsAreWhole, Steps};
 ghost use Rattle.hp_model.specs.WorkedAnswers.{WorkedAnswers};
 ghost use Rattle.hp_model.specs.WorkedKeyFiles.{WorkedKeyFiles};
 ghost use Rattle.hp_model.specs.WorkedMemory.{WorkedMemory};
@@ -39,14 +39,19 @@ pub fn restoration()
     ensures { Restoration }
 {}
 
+/// Operations and keys that don't store, clear or edit write nothing.
+pub fn writes_nothing_else()
+    ensures { WritesNothingElse }
+{}
+
 /// Each of the 225 codes is the code of one operation.
 pub fn codes_and_operations()
     ensures { CodesAndOperations }
 {}
 
-/// After the answers of the machine's own data an operation asks nothing more.
-pub fn answers_are_whole()
-    ensures { AnswersAreWhole }
+/// The answers of the machine's own data are complete, and complete answers are few.
+pub fn complete_answers()
+    ensures { CompleteAnswers }
 {}
 
 /// A rotation to the left and one to the right give the word back.
@@ -59,7 +64,7 @@ pub fn roots_are_whole()
     ensures { RootsAreWhole }
 {}
 
-/// An operation leaves the program, and a run that goes on stands at a line.
+/// An operation leaves memory's size and the program, and a run that goes on stands at a line.
 pub fn steps()
     ensures { Steps }
 {}

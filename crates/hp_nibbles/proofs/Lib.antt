@@ -1,7 +1,14 @@
+pub mod ProgramLines
 pub mod Places
 pub mod Sums
 pub mod Rewritten
+pub mod Comparisons
 pub mod Edited
+pub mod Inserted
+pub mod Deleted
+pub mod Cleared
+pub mod Made
 pub mod Bounded
 pub mod Halves
 pub mod Passes
+pub mod Seen

@@ -5,7 +5,7 @@ use Rattle.hp_model.specs.Lists.{tabulated}
 use Rattle.hp_model.specs.State.{width, register_nibbles}
 use Rattle.hp_model.specs.Memory.{half_of, nibble_written, with_register}
 use Rattle.hp_model.proofs.Tabulated.{length-tabulated, get-tabulated, same_tabulated}
-use Rattle.hp_nibbles.specs.Bytes.{nibble_at, IsOrderly}
+use Rattle.hp_nibbles.specs.Bytes.{lines_in, nibble_at, IsOrderly}
 use Rattle.hp_nibbles.specs.Written.{written_at}
 
 -- a byte is its two nibbles
@@ -38,9 +38,9 @@ small_byte old new first count v b written small =
     small_nibble : (j : ℕ) → j / 2 ≡ b → nibble_at new j < 16
     small_nibble j at = let kept = half_small (get_or old (j / 2) 0) j (rw at small) in rw (written j) (grind (arith, nat_tests, kept))
 
-pub still_orderly : (old new : List ℕ) (lines blocks first count v : ℕ) → ((i : ℕ) → nibble_at new i ≡ written_at old first count v i)
-    → first + count ≤ register_nibbles blocks → IsOrderly old lines blocks → IsOrderly new lines blocks
-still_orderly old new lines blocks first count v written inside orderly = record {
+pub still_orderly : (end : ℕ) (old new : List ℕ) (lines blocks first count v : ℕ) → ((i : ℕ) → nibble_at new i ≡ written_at old first count v i)
+    → first + count ≤ register_nibbles end blocks → IsOrderly end old lines blocks → IsOrderly end new lines blocks
+still_orderly end old new lines blocks first count v written inside orderly = record {
   lines_in_blocks = orderly.lines_in_blocks;
   lines_bound = orderly.lines_bound;
   blocks_bound = orderly.blocks_bound;
@@ -51,10 +51,10 @@ still_orderly old new lines blocks first count v written inside orderly = record
   all_are_bytes = λ b. small_byte old new first count v b written (orderly.all_are_bytes b);
 }
 
-pub same_program : (old new : List ℕ) (lines blocks first count v : ℕ) → ((i : ℕ) → nibble_at new i ≡ written_at old first count v i)
-    → first + count ≤ register_nibbles blocks → IsOrderly old lines blocks → tabulated (λ i. get_or new (202 - i) 0) lines ≡ tabulated (λ i. get_or old (202 - i) 0) lines
-same_program old new lines blocks first count v written inside orderly =
-    same_tabulated _ _ lines (λ i below. same_byte old new first count v (202 - i) written (omega arith))
+pub same_program : (end : ℕ) (old new : List ℕ) (lines blocks first count v : ℕ) → ((i : ℕ) → nibble_at new i ≡ written_at old first count v i)
+    → first + count ≤ register_nibbles end blocks → IsOrderly end old lines blocks → lines_in end new lines ≡ lines_in end old lines
+same_program end old new lines blocks first count v written inside orderly =
+    same_tabulated _ _ lines (λ i below. same_byte old new first count v (end - 1 - i) written (omega arith))
 
 pub written_register : (old new : List ℕ) (n w r v : ℕ) → ((i : ℕ) → nibble_at new i ≡ written_at old (width w * r) (width w) v i)
     → tabulated (nibble_at new) n ≡ with_register w (tabulated (nibble_at old) n) r v

@@ -4,10 +4,10 @@ ghost use Rattle.hp_model.specs.Memory.{nibble_sum};
 ghost use Rattle.hp_nibbles.specs.Bytes.{nibble_at};
 ghost use Rattle.hp_nibbles.specs.Written.{written_at, paired_byte};
 
-use crate::{BYTES, NIBBLES};
+use crate::{NIBBLES, ROOM};
 
 /// Puts a nibble into its half of its byte.
-fn put_nibble(bytes: &mut [u8; BYTES], j: usize, nibble: u8)
+fn put_nibble(bytes: &mut [u8; ROOM], j: usize, nibble: u8)
     requires inside { j < NIBBLES }
     requires digit { nibble < 16 }
     ensures here { nibble_at bytes.new j ≡ nibble }
@@ -23,8 +23,8 @@ fn put_nibble(bytes: &mut [u8; BYTES], j: usize, nibble: u8)
 }
 
 /// Puts both nibbles of a byte.
-fn put_byte(bytes: &mut [u8; BYTES], place: usize, byte: u8)
-    requires { place < BYTES }
+fn put_byte(bytes: &mut [u8; ROOM], place: usize, byte: u8)
+    requires { place < ROOM }
     ensures lower { nibble_at bytes.new (2 * place) ≡ byte % 16 }
     ensures upper { nibble_at bytes.new (2 * place + 1) ≡ byte / 16 }
     ensures others { (i : ℕ) → i / 2 ≢ place → nibble_at bytes.new i ≡ nibble_at bytes.old i }
@@ -33,8 +33,8 @@ fn put_byte(bytes: &mut [u8; BYTES], place: usize, byte: u8)
 }
 
 /// Writes the lowest digits of a number, two a byte.
-fn write_bytes(bytes: &mut [u8; BYTES], from: usize, count: usize, v: u64)
-    requires inside { from + count ≤ BYTES }
+fn write_bytes(bytes: &mut [u8; ROOM], from: usize, count: usize, v: u64)
+    requires inside { from + count ≤ ROOM }
     requires few { count ≤ 8 }
     ensures { (i : ℕ) → nibble_at bytes.new i ≡ written_at bytes.old (2 * from) (2 * count) v i }
 {
@@ -44,7 +44,7 @@ fn write_bytes(bytes: &mut [u8; BYTES], from: usize, count: usize, v: u64)
 }
 
 /// Writes the lowest digits of a number, from the lower half of a byte on.
-fn write_from_byte(bytes: &mut [u8; BYTES], from: usize, count: usize, v: u64)
+fn write_from_byte(bytes: &mut [u8; ROOM], from: usize, count: usize, v: u64)
     requires inside { 2 * from + count ≤ NIBBLES }
     requires digits { count ≤ 16 }
     ensures { (i : ℕ) → nibble_at bytes.new i ≡ written_at bytes.old (2 * from) count v i }
@@ -60,7 +60,7 @@ fn write_from_byte(bytes: &mut [u8; BYTES], from: usize, count: usize, v: u64)
 }
 
 /// Writes the lowest digits of a number, from a nibble on.
-pub fn write_nibbles(bytes: &mut [u8; BYTES], first: usize, count: usize, v: u64)
+pub fn write_nibbles(bytes: &mut [u8; ROOM], first: usize, count: usize, v: u64)
     requires inside { first + count ≤ NIBBLES }
     requires some { 1 ≤ count }
     requires digits { count ≤ 16 }
@@ -75,8 +75,8 @@ pub fn write_nibbles(bytes: &mut [u8; BYTES], first: usize, count: usize, v: u64
 }
 
 /// The number in so many bytes, the lowest first.
-fn read_bytes(bytes: &[u8; BYTES], from: usize, count: usize) -> u128
-    requires inside { from + count ≤ BYTES }
+fn read_bytes(bytes: &[u8; ROOM], from: usize, count: usize) -> u128
+    requires inside { from + count ≤ ROOM }
     requires few { count ≤ 9 }
     ensures { result ≡ nibble_sum (λ i. nibble_at bytes.now (2 * from + i)) (2 * count) }
 {
@@ -88,7 +88,7 @@ fn read_bytes(bytes: &[u8; BYTES], from: usize, count: usize) -> u128
 }
 
 /// The number whose lowest digits are so many nibbles from one on. One more digit may stand above them.
-pub fn read_nibbles(bytes: &[u8; BYTES], first: usize, count: usize) -> u128
+pub fn read_nibbles(bytes: &[u8; ROOM], first: usize, count: usize) -> u128
     requires inside { first + count ≤ NIBBLES }
     requires digits { count ≤ 16 }
     ensures { result % 16 ^ count ≡ nibble_sum (λ i. nibble_at bytes.now (first + i)) count % 16 ^ count }
@@ -98,7 +98,7 @@ pub fn read_nibbles(bytes: &[u8; BYTES], first: usize, count: usize) -> u128
 }
 
 /// Fills the first bytes with nibbles, two a byte.
-pub fn put_digits(bytes: &mut [u8; BYTES], nibbles: &[u8])
+pub fn put_digits(bytes: &mut [u8; ROOM], nibbles: &[u8])
     requires inside { length nibbles.now ≤ NIBBLES }
     requires digits { All (λ nibble. nibble < 16) nibbles.now }
     ensures { (b : ℕ) → slice_index bytes.new b ≡ (if nat_lt b (length nibbles.now / 2) then paired_byte nibbles.now b else slice_index bytes.old b) }

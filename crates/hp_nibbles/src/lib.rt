@@ -1,4 +1,5 @@
-//! Memory of 203 bytes, two nibbles each: registers of any word size, and a program that grows down from the top.
+//! Memory of 203 or 609 bytes, two nibbles each: registers of any word size, and a program that grows
+//! down from the top. Nothing above sees its bytes.
 #![tactic(auto)]
 
 mod digits;
@@ -7,13 +8,14 @@ mod memory;
 #[cfg(test)]
 mod tests;
 
+// The sizes of memory.
+pub use hp_model::Extent;
+
+// `new`, `with`; `count`, `read`, `write`, `nibble`, `clear_registers`; `lines`, `blocks`, `line`,
+// `insert_line`, `delete_line`, `clear_program`.
 pub use memory::Memory;
 
-/// The bytes of memory. A program has at most a line a byte.
-pub const BYTES: usize = 203;
+/// The bytes that any memory has room for, and its nibbles, two a byte.
+const ROOM: usize = hp_model::LARGE_BYTES;
 
-/// The nibbles of memory, two a byte.
-pub const NIBBLES: u16 = 406;
-
-/// The blocks of seven bytes that a program may take.
-pub const BLOCKS: u8 = 29;
+const NIBBLES: usize = 2 * ROOM;

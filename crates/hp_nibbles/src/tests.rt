@@ -1,5 +1,5 @@
 // Worked examples.
-use crate::Memory;
+use crate::{Extent, Memory};
 use hp_words::WordSize;
 
 #[test]
@@ -8,7 +8,7 @@ fn registers_at_several_widths(rt: HostRuntime) {
     let w6 = WordSize::new(6).expect(&rt, "a size");
     let w8 = WordSize::new(8).expect(&rt, "a size");
     let w16 = WordSize::new(16).expect(&rt, "a size");
-    let mut memory = Memory::new();
+    let mut memory = Memory::new(Extent::Standard);
     memory.write(w8, 0, 0xFF);
     assert_eq!(rt; memory.read(w6, 0), 0x3F);
     memory.write(w6, 0, 0x3F);
@@ -40,7 +40,7 @@ fn a_program_of_two_lines(rt: HostRuntime) {
     let w4 = WordSize::new(4).expect(&rt, "a size");
     let w12 = WordSize::new(12).expect(&rt, "a size");
     let nibbles = [1, 2, 3, 4, 5, 6, 7, 8, 9, 10, 11, 12, 13, 14];
-    let mut memory = Memory::with(&[0x5C, 0x6C], 28, &nibbles);
+    let mut memory = Memory::with(Extent::Standard, &[0x5C, 0x6C], 28, &nibbles);
     assert_eq!(rt;
         (memory.lines(), memory.blocks(), memory.count(w4)),
         (2, 28, 14)
@@ -56,4 +56,24 @@ fn a_program_of_two_lines(rt: HostRuntime) {
         (memory.lines(), memory.blocks(), memory.count(w4)),
         (0, 0, 406)
     );
+}
+
+#[test]
+fn a_large_memory(rt: HostRuntime) {
+    let w4 = WordSize::new(4).expect(&rt, "a size");
+    let w16 = WordSize::new(16).expect(&rt, "a size");
+    let mut memory = Memory::new(Extent::Large);
+    assert_eq!(rt; (memory.count(w4), memory.count(w16)), (1218, 304));
+    memory.write(w4, 1217, 0xF);
+    assert!(rt; memory.insert_line(0, 0x10));
+    assert_eq!(rt;
+        (memory.nibble(1216), memory.nibble(1217), memory.count(w4)),
+        (0, 1, 1204)
+    );
+    assert_eq!(rt;
+        (memory.lines(), memory.blocks(), memory.line(1)),
+        (1, 1, 0x10)
+    );
+    memory.delete_line(1);
+    assert_eq!(rt; (memory.count(w4), memory.read(w4, 1217)), (1218, 0));
 }

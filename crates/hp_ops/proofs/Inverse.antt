@@ -1,6 +1,5 @@
 -- Codes and operations, both ways.
-use Rattle.std.proofs.Common.{◌≡◌, ℕ, ◌<◌, Option, Some, None, ap, subst, sym, ◌∙◌}
-use Rattle.std.specs.Prelude.{◌↔◌, IsSome, IfSome}
+use Rattle.std.proofs.Common.{◌≡◌, ℕ, ◌<◌, ◌≤◌, Some, None, arith, ap, subst, sym, ◌∙◌}
 use Rattle.hp_model.specs.Laws.{IsInRange}
 use Rattle.hp_model.specs.Codes.{code_of, operation_of}
 use Rattle.hp_model.proofs.Codes.{operation_of-code_of, code_of-below}
@@ -97,10 +96,11 @@ abbrev Below : ℕ → Type 0
 Below n = n < 225
 
 -- the operation that is found by a code is the one of that code
-pub found : (result : Option Op) (code : ℕ) → IsSome result ↔ code < 225 → IfSome result (λ a. code_of (operation a) ≡ code)
-    → (a : Op) → code_of (operation a) ≡ code → result ≡ Some a
-found None code made is a e =
+pub found : (b : Op) (code : ℕ) → code_of (operation b) ≡ code → (a : Op) → code_of (operation a) ≡ code → Some b ≡ Some a
+found b code is a e = ap (λ k. Some k) (same_operation b a (sym (own_code b) ∙ ap operation_of (is ∙ sym e) ∙ own_code a))
+
+-- a number that is no code is that of no operation
+pub not_found : (code : ℕ) → 225 ≤ code → (a : Op) → code_of (operation a) ≡ code → None ≡ Some a
+not_found code past a e =
     let below : code < 225 = subst Below e (code_of-below (operation a) (in_range a)) in
-    let here = made.1 below in
-    cc
-found (Some b) code made is a e = ap (λ k. Some k) (same_operation b a (sym (own_code b) ∙ ap operation_of (is ∙ sym e) ∙ own_code a))
+    absurd (omega (arith, past, below))

@@ -1,37 +1,24 @@
--- The kind of what an operation asks.
-use Rattle.hp_model.specs.Operations.{Operation, Target, Place}
+-- The kinds of operations by what they ask.
+use Rattle.std.specs.Prelude.{◌≡◌, ℕ, List, [], ◌∷◌, map, ◌⊎◌}
+use Rattle.hp_model.specs.Operations.{Test}
 use Rattle.hp_model.specs.Operations as ops
+use Rattle.hp_model.specs.State.{Control}
+use Rattle.hp_model.specs.Questions.{Question, test_holds, flag_is_set, x_is_zero, x_is_negative, quotient_is_too_great, magnitude_above_size, magnitude_at_least_size, magnitude_above_64, bit_of_y_is_set, decrement_is_zero, increment_is_zero, magnitude_bit_is_set, numbers_below, index_questions, label_questions}
 use Rattle.hp_ops.specs.declared.op.AskKind.{AskKind}
 use Rattle.hp_ops.specs.declared.op.AskKind.TheVariants as kind
 
-abbrev pub kind_of_target : Target → AskKind
-kind_of_target (ops.label_named n) = kind.Nothing
-kind_of_target ops.label_in_index = kind.Label
-
-abbrev pub kind_of_place : Place → AskKind
-kind_of_place ops.through_index = kind.Index
-kind_of_place _ = kind.Nothing
-
-abbrev pub kind_of : Operation → AskKind
-kind_of (ops.test t) = kind.Test
-kind_of (ops.test_flag n) = kind.Flag
-kind_of ops.divide = kind.Divisor
-kind_of ops.remainder = kind.Divisor
-kind_of ops.square_root = kind.Negative
-kind_of ops.double_divide = kind.Double
-kind_of ops.double_remainder = kind.Double
-kind_of (ops.rotate_many way) = kind.Count
-kind_of ops.mask_left = kind.Count
-kind_of ops.mask_right = kind.Count
-kind_of ops.set_bit = kind.Bit
-kind_of ops.clear_bit = kind.Bit
-kind_of ops.test_bit = kind.BitTest
-kind_of ops.decrement_skip = kind.Zero
-kind_of ops.increment_skip = kind.Zero
-kind_of (ops.store place) = kind_of_place place
-kind_of (ops.recall place) = kind_of_place place
-kind_of ops.exchange_through = kind.Index
-kind_of (ops.goto target) = kind_of_target target
-kind_of (ops.gosub target) = kind_of_target target
-kind_of ops.set_size = kind.Size
-kind_of _ = kind.Nothing
+-- these are the questions of an operation of this kind
+abbrev pub Asks : AskKind → Control → List Question → Type 0
+Asks kind.Nothing c asked = asked ≡ []
+Asks kind.Test c asked = (t : Test) × (asked ≡ test_holds t ∷ [])
+Asks kind.Flag c asked = (n : ℕ) × (asked ≡ flag_is_set n ∷ [])
+Asks kind.Divisor c asked = asked ≡ x_is_zero ∷ []
+Asks kind.Negative c asked = asked ≡ x_is_negative ∷ []
+Asks kind.Double c asked = asked ≡ x_is_zero ∷ quotient_is_too_great ∷ []
+Asks kind.Count c asked = asked ≡ magnitude_above_size ∷ []
+Asks kind.Bit c asked = asked ≡ magnitude_at_least_size ∷ []
+Asks kind.BitTest c asked = asked ≡ magnitude_at_least_size ∷ bit_of_y_is_set ∷ []
+Asks kind.Zero c asked = (asked ≡ decrement_is_zero ∷ []) ⊎ (asked ≡ increment_is_zero ∷ [])
+Asks kind.Index c asked = asked ≡ index_questions c
+Asks kind.Label c asked = asked ≡ label_questions ops.label_in_index
+Asks kind.Size c asked = asked ≡ magnitude_above_64 ∷ map magnitude_bit_is_set (numbers_below 7)

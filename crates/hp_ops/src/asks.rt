@@ -1,14 +1,16 @@
-// What operations ask.
+// The kind of what an operation asks, which tells its questions.
 ghost use Rattle.std.specs.Prelude.{◌≡◌};
 ghost use Rattle.hp_ops.specs.Meaning.{operation, of_arithmetic, of_double, of_bits, of_setting, of_flags, of_jump, named, of_registers, where_is};
-ghost use Rattle.hp_ops.specs.Kinds.{kind_of, kind_of_target, kind_of_place};
+ghost use Rattle.hp_model.specs.State.{Control};
+ghost use Rattle.hp_model.specs.Questions.{questions, place_questions, label_questions};
+ghost use Rattle.hp_ops.specs.Kinds.{Asks};
 
 use crate::groups::{Arithmetic, Bits, Double, Flags, Jump, Place, Registers, Setting, Target};
 use crate::op::{AskKind, Op};
 
 impl Arithmetic {
     fn asks_kind(self) -> AskKind
-        ensures { result ≡ kind_of (of_arithmetic self) }
+        ensures { (c : Control) → Asks result c (questions c (of_arithmetic self)) }
     {
         match self {
             Arithmetic::Divide | Arithmetic::Remainder => AskKind::Divisor,
@@ -20,7 +22,7 @@ impl Arithmetic {
 
 impl Double {
     fn asks_kind(self) -> AskKind
-        ensures { result ≡ kind_of (of_double self) }
+        ensures { (c : Control) → Asks result c (questions c (of_double self)) }
     {
         match self {
             Double::Multiply => AskKind::Nothing,
@@ -31,7 +33,7 @@ impl Double {
 
 impl Bits {
     fn asks_kind(self) -> AskKind
-        ensures { result ≡ kind_of (of_bits self) }
+        ensures { (c : Control) → Asks result c (questions c (of_bits self)) }
     {
         match self {
             Bits::MaskLeft | Bits::MaskRight => AskKind::Count,
@@ -44,7 +46,7 @@ impl Bits {
 
 impl Setting {
     fn asks_kind(self) -> AskKind
-        ensures { result ≡ kind_of (of_setting self) }
+        ensures { (c : Control) → Asks result c (questions c (of_setting self)) }
     {
         match self {
             Setting::Size => AskKind::Size,
@@ -55,7 +57,7 @@ impl Setting {
 
 impl Flags {
     fn asks_kind(self) -> AskKind
-        ensures { result ≡ kind_of (of_flags self) }
+        ensures { (c : Control) → Asks result c (questions c (of_flags self)) }
     {
         match self {
             Flags::Test(_) => AskKind::Flag,
@@ -66,7 +68,7 @@ impl Flags {
 
 impl Target {
     fn asks_kind(self) -> AskKind
-        ensures { result ≡ kind_of_target (named self) }
+        ensures { (c : Control) → Asks result c (label_questions (named self)) }
     {
         match self {
             Target::Label(_) => AskKind::Nothing,
@@ -77,7 +79,7 @@ impl Target {
 
 impl Jump {
     fn asks_kind(self) -> AskKind
-        ensures { result ≡ kind_of (of_jump self) }
+        ensures { (c : Control) → Asks result c (questions c (of_jump self)) }
     {
         match self {
             Jump::Goto(target) | Jump::Gosub(target) => target.asks_kind(),
@@ -88,7 +90,7 @@ impl Jump {
 
 impl Place {
     fn asks_kind(self) -> AskKind
-        ensures { result ≡ kind_of_place (where_is self) }
+        ensures { (c : Control) → Asks result c (place_questions c (where_is self)) }
     {
         match self {
             Place::Through => AskKind::Index,
@@ -99,7 +101,7 @@ impl Place {
 
 impl Registers {
     fn asks_kind(self) -> AskKind
-        ensures { result ≡ kind_of (of_registers self) }
+        ensures { (c : Control) → Asks result c (questions c (of_registers self)) }
     {
         match self {
             Registers::Store(place) | Registers::Recall(place) => place.asks_kind(),
@@ -112,7 +114,7 @@ impl Registers {
 impl Op {
     /// What the operation asks of the data before control is decided.
     pub fn asks_kind(self) -> AskKind
-        ensures { result ≡ kind_of (operation self) }
+        ensures { (c : Control) → Asks result c (questions c (operation self)) }
     {
         match self {
             Op::Arithmetic(op) => op.asks_kind(),

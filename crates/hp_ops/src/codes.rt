@@ -1,4 +1,4 @@
-// The codes of operations.
+// The code of each operation: how a line of the program is kept in a byte.
 ghost use Rattle.std.specs.Prelude.{◌≡◌, ◌+◌, ◌<◌, ◌≤◌, ◌⊎◌, ◌↔◌, IsSome, IfSome};
 ghost use Rattle.hp_model.specs.Codes.{code_of, operation_of};
 ghost use Rattle.hp_model.specs.Operations as ops;
@@ -184,12 +184,21 @@ impl Target {
     }
 }
 
+impl HexDigit {
+    /// The code of LBL with this digit.
+    pub fn label_code(self) -> u8
+        ensures { result ≡ code_of (ops.label self.value) }
+    {
+        92 + self.value
+    }
+}
+
 impl Jump {
     fn code(self) -> u8
         ensures { result ≡ code_of (of_jump self) }
     {
         match self {
-            Jump::Label(label) => 92 + label.value,
+            Jump::Label(label) => label.label_code(),
             Jump::Goto(target) => 108 + target.number(),
             Jump::Gosub(target) => 125 + target.number(),
             Jump::Return => 142,

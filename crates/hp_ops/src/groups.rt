@@ -1,4 +1,4 @@
-// The groups of operations.
+// The groups of operations, by the part of the machine that they work on.
 use crate::numbers::{Flag, HexDigit, Register, Window};
 use hp_model::{Base, Mode};
 

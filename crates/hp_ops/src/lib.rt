@@ -10,9 +10,12 @@ mod of_codes;
 pub mod op;
 mod texts;
 
+// An operation: `code`, `of_code`, `text` and `asks_kind`.
+pub use op::{AskKind, Op};
+
+// Its groups, and the numbers that it carries.
 pub use groups::{
     Arithmetic, Bits, Double, Flags, Jump, Logic, Loop, Place, Registers, Rotation, Setting, Shift,
     Stack, Target, Test, Windows,
 };
 pub use numbers::{Flag, HexDigit, Register, Window};
-pub use op::{AskKind, Op};

@@ -1,4 +1,4 @@
-// The numbers that operations carry.
+// The numbers that operations carry. Their bounds stand in the types.
 ghost use Rattle.std.specs.Prelude.{◌<◌};
 
 /// A hexadecimal digit, which is also a label: 0 to 15.

@@ -1,4 +1,4 @@
-// The operations of codes.
+// The operation of each code, the inverse of `code`.
 ghost use Rattle.std.specs.Prelude.{◌≡◌, ◌+◌, ◌<◌, ◌≤◌, ◌⊎◌, ◌↔◌, Some, IsSome, IfSome};
 ghost use Rattle.hp_model.specs.Codes.{code_of, operation_of};
 ghost use Rattle.hp_model.specs.Operations as ops;
@@ -13,163 +13,71 @@ use crate::numbers::{Flag, HexDigit, Register, Window};
 use crate::op::Op;
 use hp_model::{Base, Mode};
 
-impl Stack {
-    fn of_code(code: u8) -> Stack
-        requires { (code ≡ 20) ⊎ ((22 ≤ code) × (code ≤ 26)) }
-        ensures { code_of (of_stack result) ≡ code }
-    {
-        match code {
-            20 => Stack::Enter,
-            22 => Stack::RollDown,
-            23 => Stack::RollUp,
-            24 => Stack::Exchange,
-            25 => Stack::ClearX,
-            _ => Stack::LastX,
-        }
-    }
-}
-
-impl Arithmetic {
-    fn of_code(code: u8) -> Arithmetic
-        requires { ((16 ≤ code) × (code ≤ 19)) ⊎ ((code ≡ 21) ⊎ ((53 ≤ code) × (code ≤ 55))) }
-        ensures { code_of (of_arithmetic result) ≡ code }
-    {
-        match code {
-            16 => Arithmetic::Add,
-            17 => Arithmetic::Subtract,
-            18 => Arithmetic::Multiply,
-            19 => Arithmetic::Divide,
-            21 => Arithmetic::ChangeSign,
-            53 => Arithmetic::Absolute,
-            54 => Arithmetic::Remainder,
-            _ => Arithmetic::SquareRoot,
-        }
-    }
-}
-
-impl Double {
-    fn of_code(code: u8) -> Double
-        requires least { 56 ≤ code }
-        requires greatest { code ≤ 58 }
-        ensures { code_of (of_double result) ≡ code }
-    {
-        match code {
-            56 => Double::Multiply,
-            57 => Double::Divide,
-            _ => Double::Remainder,
-        }
-    }
-}
-
-impl Shift {
-    fn of_code(code: u8) -> Shift
-        requires { ((31 ≤ code) × (code ≤ 33)) ⊎ (code ≡ 42) }
-        ensures { code_of (of_shift result) ≡ code }
-    {
-        match code {
-            31 => Shift::Left,
-            32 => Shift::Right,
-            33 => Shift::Arithmetic,
-            _ => Shift::Justify,
-        }
-    }
-}
-
-impl Rotation {
-    fn of_number(number: u8) -> Rotation
-        requires { number < 4 }
-        ensures once { code_of (ops.rotate (way result)) ≡ 34 + number }
-        ensures many { code_of (ops.rotate_many (way result)) ≡ 38 + number }
-    {
-        match number {
-            0 => Rotation::Left,
-            1 => Rotation::Right,
-            2 => Rotation::LeftCarry,
-            _ => Rotation::RightCarry,
-        }
-    }
-}
-
-impl Bits {
-    fn of_code(code: u8) -> Bits
-        requires least { 43 ≤ code }
-        requires greatest { code ≤ 48 }
-        ensures { code_of (of_bits result) ≡ code }
-    {
-        match code {
-            43 => Bits::MaskLeft,
-            44 => Bits::MaskRight,
-            45 => Bits::CountOnes,
-            46 => Bits::Set,
-            47 => Bits::Clear,
-            _ => Bits::Test,
-        }
-    }
-}
-
-impl Logic {
-    fn of_code(code: u8) -> Logic
-        requires least { 49 ≤ code }
-        requires greatest { code ≤ 52 }
-        ensures { code_of (of_logic result) ≡ code }
-    {
-        match code {
-            49 => Logic::Not,
-            50 => Logic::And,
-            51 => Logic::Or,
-            _ => Logic::Xor,
-        }
-    }
-}
-
-impl Setting {
-    fn of_code(code: u8) -> Setting
-        requires { ((27 ≤ code) × (code ≤ 30)) ⊎ ((59 ≤ code) × (code ≤ 62)) }
-        ensures { code_of (of_setting result) ≡ code }
-    {
-        match code {
-            27 => Setting::Base(Base::Hex),
-            28 => Setting::Base(Base::Dec),
-            29 => Setting::Base(Base::Oct),
-            30 => Setting::Base(Base::Bin),
-            59 => Setting::Mode(Mode::Ones),
-            60 => Setting::Mode(Mode::Twos),
-            61 => Setting::Mode(Mode::Unsigned),
-            _ => Setting::Size,
-        }
-    }
-}
-
-impl Test {
-    fn of_code(code: u8) -> Test
-        requires least { 64 ≤ code }
-        requires greatest { code ≤ 71 }
-        ensures { code_of (ops.test (condition result)) ≡ code }
-    {
-        match code {
-            64 => Test::AtMostY,
-            65 => Test::Negative,
-            66 => Test::AboveY,
-            67 => Test::Positive,
-            68 => Test::NotY,
-            69 => Test::NotZero,
-            70 => Test::EqualY,
-            _ => Test::Zero,
-        }
-    }
-}
-
-impl Loop {
-    fn of_code(code: u8) -> Loop
-        requires least { 72 ≤ code }
-        requires greatest { code ≤ 73 }
-        ensures { code_of (of_loop result) ≡ code }
-    {
-        if code == 72 {
-            Loop::Decrement
-        } else {
-            Loop::Increment
-        }
+/// The operation that carries no number, of a code from 16 to 73.
+fn function_at(code: u8) -> Op
+    requires least { 16 ≤ code }
+    requires greatest { code ≤ 73 }
+    ensures { code_of (operation result) ≡ code }
+{
+    match code {
+        16 => Op::Arithmetic(Arithmetic::Add),
+        17 => Op::Arithmetic(Arithmetic::Subtract),
+        18 => Op::Arithmetic(Arithmetic::Multiply),
+        19 => Op::Arithmetic(Arithmetic::Divide),
+        20 => Op::Stack(Stack::Enter),
+        21 => Op::Arithmetic(Arithmetic::ChangeSign),
+        22 => Op::Stack(Stack::RollDown),
+        23 => Op::Stack(Stack::RollUp),
+        24 => Op::Stack(Stack::Exchange),
+        25 => Op::Stack(Stack::ClearX),
+        26 => Op::Stack(Stack::LastX),
+        27 => Op::Setting(Setting::Base(Base::Hex)),
+        28 => Op::Setting(Setting::Base(Base::Dec)),
+        29 => Op::Setting(Setting::Base(Base::Oct)),
+        30 => Op::Setting(Setting::Base(Base::Bin)),
+        31 => Op::Shift(Shift::Left),
+        32 => Op::Shift(Shift::Right),
+        33 => Op::Shift(Shift::Arithmetic),
+        34 => Op::Rotate(Rotation::Left),
+        35 => Op::Rotate(Rotation::Right),
+        36 => Op::Rotate(Rotation::LeftCarry),
+        37 => Op::Rotate(Rotation::RightCarry),
+        38 => Op::RotateMany(Rotation::Left),
+        39 => Op::RotateMany(Rotation::Right),
+        40 => Op::RotateMany(Rotation::LeftCarry),
+        41 => Op::RotateMany(Rotation::RightCarry),
+        42 => Op::Shift(Shift::Justify),
+        43 => Op::Bits(Bits::MaskLeft),
+        44 => Op::Bits(Bits::MaskRight),
+        45 => Op::Bits(Bits::CountOnes),
+        46 => Op::Bits(Bits::Set),
+        47 => Op::Bits(Bits::Clear),
+        48 => Op::Bits(Bits::Test),
+        49 => Op::Logic(Logic::Not),
+        50 => Op::Logic(Logic::And),
+        51 => Op::Logic(Logic::Or),
+        52 => Op::Logic(Logic::Xor),
+        53 => Op::Arithmetic(Arithmetic::Absolute),
+        54 => Op::Arithmetic(Arithmetic::Remainder),
+        55 => Op::Arithmetic(Arithmetic::SquareRoot),
+        56 => Op::Double(Double::Multiply),
+        57 => Op::Double(Double::Divide),
+        58 => Op::Double(Double::Remainder),
+        59 => Op::Setting(Setting::Mode(Mode::Ones)),
+        60 => Op::Setting(Setting::Mode(Mode::Twos)),
+        61 => Op::Setting(Setting::Mode(Mode::Unsigned)),
+        62 => Op::Setting(Setting::Size),
+        63 => Op::Registers(Registers::Clear),
+        64 => Op::Test(Test::AtMostY),
+        65 => Op::Test(Test::Negative),
+        66 => Op::Test(Test::AboveY),
+        67 => Op::Test(Test::Positive),
+        68 => Op::Test(Test::NotY),
+        69 => Op::Test(Test::NotZero),
+        70 => Op::Test(Test::EqualY),
+        71 => Op::Test(Test::Zero),
+        72 => Op::Loop(Loop::Decrement),
+        _ => Op::Loop(Loop::Increment),
     }
 }
 
@@ -234,11 +142,11 @@ impl Place {
 
 impl Registers {
     fn of_code(code: u8) -> Registers
-        requires { (code ≡ 63) ⊎ ((145 ≤ code) × (code ≤ 214)) }
+        requires least { 145 ≤ code }
+        requires greatest { code ≤ 214 }
         ensures { code_of (of_registers result) ≡ code }
     {
         match code {
-            63 => Registers::Clear,
             ..179 => Registers::Store(Place::of_number(code - 145)),
             179..213 => Registers::Recall(Place::of_number(code - 179)),
             213 => Registers::ExchangeIndex,
@@ -261,39 +169,30 @@ impl Windows {
     }
 }
 
-/// The operation of a code, where it is one.
-fn op_at(code: u8) -> Option<Op>
-    ensures made { IsSome result ↔ code < 225 }
-    ensures code { IfSome result (λ op. code_of (operation op) ≡ code) }
-{
-    match code {
-        0..=15 => Some(Op::Digit(HexDigit { value: code })),
-        16..=19 | 21 | 53..=55 => Some(Op::Arithmetic(Arithmetic::of_code(code))),
-        20 | 22..=26 => Some(Op::Stack(Stack::of_code(code))),
-        27..=30 | 59..=62 => Some(Op::Setting(Setting::of_code(code))),
-        31..=33 | 42 => Some(Op::Shift(Shift::of_code(code))),
-        34..=37 => Some(Op::Rotate(Rotation::of_number(code - 34))),
-        38..=41 => Some(Op::RotateMany(Rotation::of_number(code - 38))),
-        43..=48 => Some(Op::Bits(Bits::of_code(code))),
-        49..=52 => Some(Op::Logic(Logic::of_code(code))),
-        56..=58 => Some(Op::Double(Double::of_code(code))),
-        63 | 145..=214 => Some(Op::Registers(Registers::of_code(code))),
-        64..=71 => Some(Op::Test(Test::of_code(code))),
-        72..=73 => Some(Op::Loop(Loop::of_code(code))),
-        74..=91 => Some(Op::Flags(Flags::of_code(code))),
-        92..=144 => Some(Op::Jump(Jump::of_code(code))),
-        215..=224 => Some(Op::Windows(Windows::of_code(code))),
-        _ => None,
-    }
-}
-
 impl Op {
+    /// The operation of a code below 225.
+    #[inline(always)]
+    pub fn at(code: u8) -> Op
+        requires { code < 225 }
+        ensures operation { operation result ≡ operation_of code }
+        ensures code { code_of (operation result) ≡ code }
+    {
+        match code {
+            ..16 => Op::Digit(HexDigit { value: code }),
+            16..74 => function_at(code),
+            74..92 => Op::Flags(Flags::of_code(code)),
+            92..145 => Op::Jump(Jump::of_code(code)),
+            145..215 => Op::Registers(Registers::of_code(code)),
+            _ => Op::Windows(Windows::of_code(code)),
+        }
+    }
+
     /// The operation of a code. None from 225 on, which are no codes.
     pub fn of_code(code: u8) -> Option<Op>
         ensures made { IsSome result ↔ code < 225 }
         ensures operation { IfSome result (λ op. operation op ≡ operation_of code) }
         ensures inverse { (op : Op) → code_of (operation op) ≡ code → result ≡ Some op }
     {
-        op_at(code)
+        if code < 225 { Some(Op::at(code)) } else { None }
     }
 }

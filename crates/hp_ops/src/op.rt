@@ -1,4 +1,4 @@
-// The operations.
+// An operation is one of its group.
 use crate::groups::{
     Arithmetic, Bits, Double, Flags, Jump, Logic, Loop, Registers, Rotation, Setting, Shift, Stack,
     Test, Windows,

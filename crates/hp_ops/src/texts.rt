@@ -1,4 +1,4 @@
-// The listing texts of operations.
+// The listing text of each operation, as the Owner's Handbook names its keys.
 ghost use Rattle.std.specs.Prelude.{◌≡◌, ◌+◌, ◌++◌, ◌<◌, ◌≤◌, length, codes};
 ghost use Rattle.arrayvec.specs.ArrayString.{array_string_len};
 ghost use Rattle.hp_model.specs.Texts.{text_of, digit_text, target_text, place_text, test_text};

@@ -8,7 +8,7 @@ use Rattle.hp_model.specs.Keys.{Command, Prefix}
 use Rattle.hp_model.specs.Keys as keys
 use Rattle.hp_model.specs.Prefixes.{press_key}
 use Rattle.hp_model.specs.Press.{Calculator, commanded, after_press, press}
-use Rattle.hp_model.specs.Wrote.{wrote, pressed_all}
+use Rattle.hp_model.specs.WrittenNibbles.{wrote, pressed_all}
 use Rattle.hp_model.proofs.KeptByKeys.{press-nibble}
 
 -- a nibble that a key which completes a command may not change

@@ -2,3 +2,4 @@ pub mod Ends
 pub mod Calculators
 pub mod Seen
 pub mod Jumped
+pub mod Places

@@ -1,10 +1,10 @@
 // Edits of the program, which clear the pending returns.
 ghost use Rattle.std.specs.Prelude.{◌≡◌, ◌≤◌, length, []};
-ghost use Rattle.hp_model.specs.State.{blocks_of};
 ghost use Rattle.hp_model.specs.Press.{inserted, deleted, reprogrammed, without_entry, normally};
 ghost use Rattle.hp_ops.specs.Meaning.{operation};
 ghost use Rattle.hp_core.specs.Machines.{machine_of};
 ghost use Rattle.hp_run.specs.Calculators.{shown_of};
+ghost use Rattle.hp_run.specs.Places.{HasOwnBlocks, IsOnLine};
 
 use hp_core::{Calls, Machine};
 use hp_edit::Full;
@@ -13,11 +13,11 @@ use hp_ops::Op;
 
 /// Puts an operation after the shown line, and shows it. Error 4 where the program is full.
 pub fn insert(machine: &mut Machine, op: Op) -> View
-    requires blocks { machine.old.memory.blocks ≡ blocks_of (length machine.old.memory.program) }
-    requires line { machine.old.control.line ≤ length machine.old.memory.program }
+    requires blocks { HasOwnBlocks machine.old.memory }
+    requires line { IsOnLine machine.old }
     ensures shown { shown_of machine.new result ≡ inserted (operation op) (machine_of machine.old) }
-    ensures blocks { machine.new.memory.blocks ≡ blocks_of (length machine.new.memory.program) }
-    ensures inside { machine.new.control.line ≤ length machine.new.memory.program }
+    ensures blocks { HasOwnBlocks machine.new.memory }
+    ensures inside { IsOnLine machine.new }
 {
     match hp_edit::insert(&mut machine.memory, machine.control.line, op) {
         Err(Full) => View::Error(4),
@@ -31,11 +31,11 @@ pub fn insert(machine: &mut Machine, op: Op) -> View
 
 /// Takes the shown line out, and shows the one before it. At line 0 nothing is done.
 pub fn delete(machine: &mut Machine) -> View
-    requires blocks { machine.old.memory.blocks ≡ blocks_of (length machine.old.memory.program) }
-    requires line { machine.old.control.line ≤ length machine.old.memory.program }
+    requires blocks { HasOwnBlocks machine.old.memory }
+    requires line { IsOnLine machine.old }
     ensures shown { shown_of machine.new result ≡ normally (deleted (machine_of machine.old)) }
-    ensures blocks { machine.new.memory.blocks ≡ blocks_of (length machine.new.memory.program) }
-    ensures inside { machine.new.control.line ≤ length machine.new.memory.program }
+    ensures blocks { HasOwnBlocks machine.new.memory }
+    ensures inside { IsOnLine machine.new }
 {
     let line = machine.control.line;
     if line > 0 {
@@ -47,9 +47,10 @@ pub fn delete(machine: &mut Machine) -> View
 
 /// Takes all lines out.
 pub fn clear_program(machine: &mut Machine) -> View
-    ensures shown { shown_of machine.new result ≡ normally (reprogrammed [] 0 (without_entry (machine_of machine.old))) }
-    ensures blocks { machine.new.memory.blocks ≡ blocks_of (length machine.new.memory.program) }
-    ensures inside { machine.new.control.line ≤ length machine.new.memory.program }
+    ensures shown { shown_of machine.new result
+        ≡ normally (reprogrammed [] 0 (without_entry (machine_of machine.old))) }
+    ensures blocks { HasOwnBlocks machine.new.memory }
+    ensures inside { IsOnLine machine.new }
 {
     machine.control.entry = None;
     machine.control.line = 0;

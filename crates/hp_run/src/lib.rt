@@ -1,18 +1,21 @@
-//! The calculator under its keys: runs of a program, and what each key does in run mode and in program
-//! mode.
+//! The calculator under its keys: runs of a program, and what each key does in run mode and in
+//! program mode. Control stays in hp_core's hands; edits are hp_edit's, and prefixes hp_keys'.
 #![tactic(auto)]
 
 mod calculators;
 mod commands;
 mod editing;
-mod jumps;
 mod lines;
-mod moves;
+mod navigation;
+mod pressed_operations;
 mod presses;
 mod runs;
 #[cfg(test)]
 mod tests;
 
+// The calculator: `new`, with so much memory; keys pressed one by one, or in turn.
 pub use calculators::Calculator;
 pub use presses::{press, press_all};
+
+// A run of the program, and how it came out.
 pub use runs::{RunEnd, run};

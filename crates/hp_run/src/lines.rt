@@ -5,10 +5,10 @@ ghost use Rattle.hp_ops.specs.Meaning.{operation};
 ghost use Rattle.hp_core.specs.Machines.{control_of, machine_of, step_of, KeepsLines};
 
 use hp_core::{End, Machine, Stop};
-use hp_edit::op_at;
 use hp_ops::{Jump, Op};
 
 /// The operation of the line to be done next. Past the last line stands an RTN.
+#[inline(always)]
 fn next_op(machine: &Machine) -> Op
     requires { 1 ≤ machine.now.control.line }
     ensures { operation result ≡ next_operation (control_of machine.now) }
@@ -17,11 +17,13 @@ fn next_op(machine: &Machine) -> Op
     if line > machine.memory.lines() {
         Op::Jump(Jump::Return)
     } else {
-        op_at(&machine.memory, line)
+        machine.op_at(line)
     }
 }
 
-/// Does the next line. Its operation finds the number of the line after it, and an error leaves its own.
+/// Does the next line. Its operation finds the number of the line after it, and an error leaves its
+/// own.
+#[inline(always)]
 pub fn do_line(machine: &mut Machine) -> Stop
     requires { 1 ≤ machine.old.control.line }
     ensures done { line_done (machine_of machine.old) ≡ step_of machine.new result }

@@ -21,7 +21,8 @@ pub enum RunEnd {
 /// The lines that one key may do.
 const LINES_PER_KEY: u32 = 100_000;
 
-/// Does lines from the line number on, at most `bound` of them. Each RTN past the last line is one too.
+/// Does lines from the line number on, at most `bound` of them. Each RTN past the last line is one
+/// too.
 pub fn run(machine: &mut Machine, bound: u32) -> RunEnd
     requires { 1 ≤ machine.old.control.line }
     ensures run { run_of bound (machine_of machine.old) ≡ (end_of result, machine_of machine.new) }
@@ -38,7 +39,8 @@ pub fn run(machine: &mut Machine, bound: u32) -> RunEnd
 
 /// What the display shows after a run.
 fn view_of_run(end: RunEnd) -> View
-    ensures { (m : MachineState) → shown_run (end_of end, m) ≡ record { machine = m; view = result } }
+    ensures { (m : MachineState) → shown_run (end_of end, m)
+        ≡ record { machine = m; view = result } }
 {
     match end {
         RunEnd::Ended(End::Error(number)) => View::Error(number),
@@ -50,7 +52,8 @@ fn view_of_run(end: RunEnd) -> View
 /// A pressed run, from the line number on. One that does not end by itself ends with Error 8.
 pub fn run_on(machine: &mut Machine) -> View
     requires { 1 ≤ machine.old.control.line }
-    ensures shown { shown_run (run_of lines_per_key (machine_of machine.old)) ≡ shown_of machine.new result }
+    ensures shown { shown_run (run_of lines_per_key (machine_of machine.old))
+        ≡ shown_of machine.new result }
     ensures lines { KeepsLines machine.old machine.new }
 {
     view_of_run(run(machine, LINES_PER_KEY))

@@ -1,4 +1,5 @@
-//! Key files: the keys of their words are pressed on a new calculator, and each line gives its display.
+//! Key files: the keys of their words are pressed on a new calculator of the size that the file names, and
+//! each line gives its display.
 #![tactic(auto)]
 
 mod reading;

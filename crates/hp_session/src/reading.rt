@@ -1,9 +1,10 @@
-// A key file that is being read, byte by byte.
+// A key file that is being read, byte by byte: words press keys as soon as they end, and a line's end
+// writes its display. No line is kept.
 ghost use Rattle.std.specs.Prelude.{◌≡◌, ◌+◌, ◌-◌, ◌^◌, ◌<◌, ◌≤◌, ◌∷◌, [], ◌++◌, length, Some, None, OnOk, IfErr, MatchResult};
 ghost use Rattle.std.specs.Io.KnownBytes.{Appends};
 ghost use Rattle.hp_io.specs.Causes.{Rose};
 ghost use Rattle.hp_model.specs.Display.{display as display_of};
-ghost use Rattle.hp_model.specs.Session.{is_separator as separates};
+ghost use Rattle.hp_model.specs.Session.{is_separator as separates, machine_named};
 ghost use Rattle.hp_run.specs.Seen.{calculator_of};
 ghost use Rattle.arrayvec.specs.ArrayString.{array_string_len};
 ghost use Rattle.hp_session.specs.Progress.{nothing_read, word_ended, letter_added, line_ended};
@@ -13,7 +14,8 @@ use crate::sessions::SessionEnd;
 use arrayvec::{ArrayString, ArrayVec};
 use hp_display::display;
 use hp_io::{Sink, write_whole};
-use hp_keys::key_of_word;
+use hp_keys::Key;
+use hp_model::Extent;
 use hp_run::{Calculator, press};
 use std::marker::Model;
 use std::mem;
@@ -38,14 +40,16 @@ fn show(calculator: &Calculator) -> ArrayString<32>
     )
 }
 
-/// What the bytes so far have done: the calculator, the number of the line, and of what is open the
-/// letters of the word and whether the line has a byte.
+/// What the bytes so far have done: the calculator, the number of the line, of what is open the letters
+/// of the word and whether the line has a byte, and whether the first word of the first line is still to
+/// end, which may name the machine.
 #[derive(Drop)]
 pub struct Reading {
     calculator: Calculator,
     line: u32,
     word: ArrayVec<u8, 8>,
     begun: bool,
+    first: bool,
 }
 
 impl Model for Reading {
@@ -54,7 +58,7 @@ impl Model for Reading {
 
     ghost Value = { Progress };
 
-    ghost view = { λ r. record { calculator = calculator_of r.calculator; line = r.line; word = r.word.items; begun = r.begun } };
+    ghost view = { λ r. record { calculator = calculator_of r.calculator; line = r.line; word = r.word.items; begun = r.begun; first = r.first } };
 }
 
 impl Reading {
@@ -63,10 +67,11 @@ impl Reading {
         ensures { result ≡ nothing_read }
     {
         Reading {
-            calculator: Calculator::new(),
+            calculator: Calculator::new(Extent::Standard),
             line: 1,
             word: ArrayVec::new(),
             begun: false,
+            first: true,
         }
     }
 
@@ -80,7 +85,19 @@ impl Reading {
         }
     }
 
-    /// The open word has ended: its key is pressed, if it has a letter.
+    /// The machine that the open word names, where it is the first word of the first line.
+    fn machine_named(&self) -> Option<Extent>
+        ensures { result ≡ machine_named self.now.first self.now.word }
+    {
+        if self.first {
+            Extent::of_word(self.word.as_slice())
+        } else {
+            None
+        }
+    }
+
+    /// The open word has ended. If it has a letter, it begins with the machine that it names, or its key
+    /// is pressed.
     fn end_word(&mut self) -> Result<(), SessionEnd>
         ensures { MatchResult result
             (λ _. word_ended self.old ≡ Some self.new)
@@ -89,17 +106,19 @@ impl Reading {
         if self.word.is_empty() {
             return Ok(());
         }
-        match key_of_word(self.word.as_slice()) {
-            None => Err(self.bad_word()),
-            Some(key) => {
-                press(&mut self.calculator, key);
-                self.word.clear();
-                Ok(())
-            }
+        if let Some(extent) = self.machine_named() {
+            self.calculator = Calculator::new(extent);
+        } else if let Some(key) = Key::of_word(self.word.as_slice()) {
+            press(&mut self.calculator, key);
+        } else {
+            return Err(self.bad_word());
         }
+        self.word.clear();
+        self.first = false;
+        Ok(())
     }
 
-    /// The open word has a letter more, and is no key word if it has eight.
+    /// The open word has a letter more, and is bad if it has eight.
     fn add_letter(&mut self, byte: u8) -> Result<(), SessionEnd>
         requires { length self.old.word < 8 }
         ensures { MatchResult result
@@ -130,6 +149,7 @@ impl Reading {
         }
         self.line += 1;
         self.begun = false;
+        self.first = false;
         Ok(())
     }
 

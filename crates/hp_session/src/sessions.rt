@@ -1,4 +1,4 @@
-// A session over a source and a sink.
+// A session over a source and a sink: the loop over the bytes, the limit on them, and the ways to end.
 ghost use Rattle.std.specs.Prelude.{◌≡◌, ◌+◌, ◌≤◌, IfSome};
 ghost use Rattle.std.specs.Io.KnownBytes.{Appends};
 ghost use Rattle.hp_io.specs.Causes.{CallsAtMost, Rose};
@@ -14,7 +14,7 @@ use hp_io::{Sink, Source, next_byte};
 pub enum SessionEnd {
     /// The source was read to its end, and all displays are written.
     Done,
-    /// A word is no key word. Its line is counted from 1, and of a long word the first eight bytes are
+    /// A word is no key's, and names no machine where one may be named. Its line is counted from 1, and of a long word the first eight bytes are
     /// given.
     BadWord { line: u32, word: ArrayVec<u8, 8> },
     /// The source has more than a million bytes.
@@ -28,7 +28,8 @@ pub enum SessionEnd {
 // How many bytes a key file may have.
 const LIMIT: u32 = 1_000_000;
 
-/// Presses the keys of a key file on a new calculator, and writes the display after each line.
+/// Presses the keys of a key file on a new calculator, and writes the display after each line. The
+/// calculator has 203 bytes of memory, or 609 where the first word of the first line is `M609`.
 ///
 /// Words are separated by blanks, tabs, CR and LF. The bytes are read one at a time.
 pub fn session<S: Source, K: Sink>(source: &mut S, sink: &mut K) -> SessionEnd

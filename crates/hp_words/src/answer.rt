@@ -1,4 +1,4 @@
-// The refusal of a division.
+// The refusal of an operation on words.
 use thiserror::Error;
 
 /// A division by zero, the square root of a negative number, or a quotient that doesn't fit: Error 0.

@@ -1,4 +1,4 @@
-// Bases of numbers.
+// Bases as numbers, for digits that are entered and shown.
 ghost use Rattle.std.specs.Prelude.{◌≡◌, ◌≤◌};
 ghost use Rattle.hp_model.specs.State.{radix};
 

@@ -1,4 +1,4 @@
-// What operations work on, but for memory.
+// The state of the stack, LAST X, the index register and the flags, without memory.
 
 /// The stack X, Y, Z and T, LAST X, the index register of 64 bits, and the flags 0 to 5, of which 4 is
 /// the carry and 5 is out of range.

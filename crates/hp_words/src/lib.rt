@@ -1,4 +1,5 @@
-//! Word sizes, integer modes, bases, and words as numbers.
+//! Word sizes, integer modes, bases, words as numbers, and what operations work on beside memory. A
+//! size and a word carry their bounds, so that no crate above tests them again.
 #![tactic(auto)]
 
 pub mod answer;
@@ -7,9 +8,15 @@ pub mod content;
 pub mod size;
 pub mod word;
 
-pub use answer::Error0;
+// Sizes, modes and bases.
 pub use base::radix;
-pub use content::Content;
-pub use hp_model::{Answer, Base, Mode};
+pub use hp_model::{Base, Mode};
 pub use size::WordSize;
+
+// Words, and numbers as patterns.
 pub use word::{Word, fits, low};
+
+// What operations work on, and what they answer.
+pub use answer::Error0;
+pub use content::Content;
+pub use hp_model::Answer;

@@ -1,4 +1,4 @@
-// Word sizes.
+// Word sizes: how many patterns and nibbles they have. The bounds stand in the type.
 ghost use Rattle.std.specs.Prelude.{◌≡◌, ◌+◌, ◌-◌, ◌*◌, ◌/◌, ◌^◌, ◌<◌, ◌≤◌, ◌↔◌, IsSome, IfSome};
 ghost use Rattle.hp_model.specs.State.{width};
 

@@ -1,4 +1,4 @@
-// Words, and numbers as patterns.
+// Words as numbers in a mode, and numbers as patterns. The pattern is in the range of its size by its type.
 ghost use Rattle.std.specs.Prelude.{◌≡◌, ◌-◌, ◌^◌, ◌<◌, ◌≤◌, nat_abs};
 ghost use Rattle.hp_model.specs.Words.{value, magnitude, low as low_of, fits as fits_in};
 

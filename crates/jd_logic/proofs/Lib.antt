@@ -1,1 +1,2 @@
 pub mod LratInputs
+pub mod LineRanges

@@ -3,7 +3,7 @@ use Rattle.std.specs.Prelude.{ℕ, ℤ, pos, negsuc, not, ◌==◌, if◌then◌
 use Rattle.std.specs.List.{filter}
 use Rattle.jd_logic.specs.declared.answers.BadLine.{BadLine}
 use Rattle.jd_logic.specs.declared.answers.BadLine.TheVariants.{NoClause, NotUnit, NoConflict, RatLine}
-use Rattle.jd_logic.specs.declared.Left.TheVariants.{Nothing, One, Several}
+use Rattle.jd_logic.specs.declared.Left.TheVariants.{Falsified, Unit, Open}
 use Rattle.jd_logic.specs.Literals.{with_literal, left}
 
 -- the clause of an id
@@ -18,9 +18,9 @@ hints_fault clauses trues (negsuc n ∷ hints) = Some RatLine
 hints_fault clauses trues (pos id ∷ hints) = elim (clause_of id clauses) [
   | None ↦ Some (NoClause (pos id))
   | Some clause ↦ (elim (left trues clause) [
-    | Nothing ↦ None
-    | One l ↦ hints_fault clauses (with_literal trues l) hints
-    | Several ↦ Some (NotUnit (pos id))
+    | Falsified ↦ None
+    | Unit l ↦ hints_fault clauses (with_literal trues l) hints
+    | Open ↦ Some (NotUnit (pos id))
   ])
 ]
 

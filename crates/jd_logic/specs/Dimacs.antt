@@ -1,6 +1,8 @@
 -- The grammar of DIMACS clauses.
 use Rattle.std.specs.Prelude.{ℕ, zero, suc, ◌^◌, ℤ, nat_abs, true, false, ◌&&◌, nat_lt, List, [], ◌∷◌, ◌++◌, Option, Some, None, Result, Ok, Err, codes}
-use Rattle.jd_logic.specs.Words.{number_of, integer_of, words_of, bytes_of_lines, lines_of, is_text, is_skipped}
+use Rattle.jd_logic.specs.Numerals.{number_of, integer_of, is_skipped}
+use Rattle.jd_text.specs.Words.{words_of, is_text}
+use Rattle.jd_text.specs.Lines.{bytes_of_lines, lines_of}
 
 -- the greatest variable and the number of clauses
 pub record Header : Type 0 where

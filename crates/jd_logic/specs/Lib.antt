@@ -1,7 +1,8 @@
 pub mod Literals
+pub mod Ranges
 pub mod Derivation
 pub mod Checking
-pub mod Words
+pub mod Numerals
 pub mod LratText
 pub mod Dimacs
 pub mod Verdict

@@ -2,7 +2,8 @@
 use Rattle.std.specs.Prelude.{ℕ, zero, suc, ◌^◌, ℤ, pos, negsuc, nat_abs, Bool, true, false, ◌&&◌, nat_lt, List, [], ◌∷◌, map, Option, Some, None, Result, Ok, Err, codes}
 use Rattle.jd_logic.specs.declared.Line.{Line}
 use Rattle.jd_logic.specs.declared.Line.TheVariants.{Derive, Delete}
-use Rattle.jd_logic.specs.Words.{integer_of, words_of, is_text, is_skipped}
+use Rattle.jd_logic.specs.Numerals.{integer_of, is_skipped}
+use Rattle.jd_text.specs.Words.{words_of, is_text}
 
 abbrev pub is_literal : ℤ → Bool
 is_literal l = nat_lt (nat_abs l) (2 ^ 31)

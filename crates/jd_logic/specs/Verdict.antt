@@ -3,7 +3,7 @@ use Rattle.std.specs.Prelude.{ℕ, suc, true, false, List, [], ◌∷◌, drop, 
 use Rattle.jd_logic.specs.declared.Line.{Line}
 use Rattle.jd_logic.specs.declared.answers.Verdict.{Verdict}
 use Rattle.jd_logic.specs.declared.answers.Verdict.TheVariants.{NotText, Refuted, NotRefuted, Bad}
-use Rattle.jd_logic.specs.Words.{lines_of}
+use Rattle.jd_text.specs.Lines.{lines_of}
 use Rattle.jd_logic.specs.Checking.{State, begun, checked}
 use Rattle.jd_logic.specs.LratText.{log_of}
 use Rattle.jd_logic.specs.Dimacs.{cnf_of}

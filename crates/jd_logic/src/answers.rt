@@ -1,4 +1,5 @@
-//! What a check answers, and how that is printed.
+//! What a check answers, and how that is printed. Stated here, below the checker, since
+//! definitions speak of it.
 use std::fmt;
 
 /// Why a line of a proof isn't right. The number is the hint's, or the id that a deletion names.

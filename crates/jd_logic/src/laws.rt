@@ -1,4 +1,5 @@
-//! What holds of the definitions alone.
+//! What holds of the definitions alone: the worked examples that they are tried on before any code
+//! is.
 ghost use Rattle.jd_logic.specs.WorkedProofs.{WorkedProofs, WorkedFaults, WorkedTexts};
 
 /// The definitions answer the worked proofs as they are said to.

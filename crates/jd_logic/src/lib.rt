@@ -6,12 +6,14 @@
 pub mod answers;
 pub mod laws;
 pub mod lists;
+pub mod log;
 
 pub use answers::{BadLine, Verdict};
 pub use lists::{Clause, Hints, Ids};
+pub use log::Log;
 
 /// A line of an LRAT proof.
-#[derive(Drop)]
+#[derive(Debug, Drop)]
 pub enum Line {
     /// A clause that follows from those of the hints, in their order. The id is 1 to 2^63 - 1.
     Derive {
@@ -28,7 +30,10 @@ pub enum Line {
 /// What is left of a clause once its false literals are taken away.
 #[derive(Clone, Copy, Debug, PartialEq, Eq)]
 pub enum Left {
-    Nothing,
-    One(i32),
-    Several,
+    /// No literal is left: the clause is false.
+    Falsified,
+    /// This literal alone is left, however often it stands there.
+    Unit(i32),
+    /// Two literals or more are left.
+    Open,
 }

@@ -7,7 +7,7 @@ use std::marker::Model;
 
 /// A clause's literals, which are numbers other than 0 of magnitude below 2^31. As in DIMACS, a
 /// variable's number is its literal, and the number's negative the negation.
-#[derive(Drop)]
+#[derive(Debug, Drop)]
 pub struct Clause {
     literals: Vec<i32>,
 }
@@ -24,6 +24,7 @@ impl Model for Clause {
 }
 
 impl Clause {
+    /// The clause of a vector's literals. Takes no memory.
     pub fn new(literals: Vec<i32>) -> Clause
         requires { AreLiterals literals.items }
         ensures { result ≡ literals.items }
@@ -31,6 +32,7 @@ impl Clause {
         Clause { literals }
     }
 
+    /// The literals in their order.
     pub fn literals(&self) -> &[i32]
         ensures same { result.now ≡ self.now }
         ensures range { AreLiterals result.now }
@@ -38,6 +40,7 @@ impl Clause {
         self.literals.as_slice()
     }
 
+    /// The vector that holds the literals. Takes no memory.
     pub fn into_literals(self) -> Vec<i32>
         ensures same { result.items ≡ self }
         ensures range { AreLiterals result.items }
@@ -48,7 +51,7 @@ impl Clause {
 
 /// The hints of a derivation, which are numbers other than 0 of magnitude below 2^63: ids of
 /// clauses, or negative where a RAT step begins.
-#[derive(Drop)]
+#[derive(Debug, Drop)]
 pub struct Hints {
     hints: Vec<i64>,
 }
@@ -65,6 +68,7 @@ impl Model for Hints {
 }
 
 impl Hints {
+    /// The hints of a vector. Takes no memory.
     pub fn new(hints: Vec<i64>) -> Hints
         requires { AreHints hints.items }
         ensures { result ≡ hints.items }
@@ -72,6 +76,7 @@ impl Hints {
         Hints { hints }
     }
 
+    /// The hints in their order.
     pub fn hints(&self) -> &[i64]
         ensures same { result.now ≡ self.now }
         ensures range { AreHints result.now }
@@ -79,6 +84,7 @@ impl Hints {
         self.hints.as_slice()
     }
 
+    /// The vector that holds the hints. Takes no memory.
     pub fn into_hints(self) -> Vec<i64>
         ensures same { result.items ≡ self }
         ensures range { AreHints result.items }
@@ -88,7 +94,7 @@ impl Hints {
 }
 
 /// The ids that a deletion names, which are numbers from 1 to 2^63 - 1.
-#[derive(Drop)]
+#[derive(Debug, Drop)]
 pub struct Ids {
     ids: Vec<u64>,
 }
@@ -105,6 +111,7 @@ impl Model for Ids {
 }
 
 impl Ids {
+    /// The ids of a vector. Takes no memory.
     pub fn new(ids: Vec<u64>) -> Ids
         requires { AreIds ids.items }
         ensures { result ≡ ids.items }
@@ -112,6 +119,7 @@ impl Ids {
         Ids { ids }
     }
 
+    /// The ids in their order.
     pub fn ids(&self) -> &[u64]
         ensures same { result.now ≡ self.now }
         ensures range { AreIds result.now }
@@ -119,6 +127,7 @@ impl Ids {
         self.ids.as_slice()
     }
 
+    /// The vector that holds the ids. Takes no memory.
     pub fn into_ids(self) -> Vec<u64>
         ensures same { result.items ≡ self }
         ensures range { AreIds result.items }

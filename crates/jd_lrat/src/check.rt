@@ -1,16 +1,18 @@
-//! The check of a whole text.
+//! The check of a whole text in one pass: clauses, then lines, each read into the same lists. The
+//! first bad line is kept while the grammar of the rest is judged.
 ghost use Rattle.std.specs.Prelude.{◌≡◌, ◌+◌, ◌<◌, ◌^◌, [], false, suc, length, drop, None, IfOk, OnOk};
-ghost use Rattle.jd_logic.specs.Words.{lines_of};
+ghost use Rattle.jd_text.specs.Lines.{lines_of};
 ghost use Rattle.jd_logic.specs.Verdict.{verdict_of};
 ghost use Rattle.jd_lrat.specs.CnfTexts.{IsLineStart};
+ghost use Rattle.jd_lrat.specs.LineTexts.{HasRanges, line_in};
 ghost use Rattle.jd_lrat.specs.Checks.{IsStepped, progress_of, stepped, verdict_after, verdict_on};
 
 use crate::checker::Checker;
 use crate::dimacs::{Taken, take_cnf};
-use crate::line_text::read_line;
-use crate::words::is_skipped;
+use crate::line_text::{Head, Lists};
+use crate::numerals::is_skipped;
 use crate::{CnfFault, LineFault, NoMemory, ProofText};
-use jd_logic::{BadLine, Line, Verdict};
+use jd_logic::{BadLine, Verdict};
 use jd_text::next_line;
 use std::alloc::Global;
 
@@ -25,10 +27,11 @@ struct Check {
 
 impl Check {
     /// Checks a line of the proof.
-    fn step(&mut self, line: &Line) -> Result<(), NoMemory>
+    fn step(&mut self, head: Head, lists: &Lists) -> Result<(), NoMemory>
+        requires ranges { HasRanges head lists.now }
         requires unspent { self.old.checker.spent ≡ false }
         requires small { self.old.count + 1 < 2 ^ 64 }
-        ensures progress { OnOk result (progress_of self.new ≡ stepped (progress_of self.old) line.now) }
+        ensures progress { OnOk result (progress_of self.new ≡ stepped (progress_of self.old) (line_in head lists.now)) }
         ensures unspent { OnOk result (self.new.checker.spent ≡ false) }
     {
         let count = self.count;
@@ -36,7 +39,7 @@ impl Check {
         if self.fault.is_some() {
             return Ok(());
         }
-        match self.checker.line(line) {
+        match self.checker.take(head, lists) {
             Ok(()) => Ok(()),
             Err(LineFault::Bad(cause)) => {
                 self.fault = Some((count, cause));
@@ -47,7 +50,7 @@ impl Check {
     }
 
     /// Checks a line of the text, which may be a comment.
-    fn step_text(&mut self, alloc: Global, text: &[u8]) -> Result<(), ProofText>
+    fn step_text(&mut self, lists: &mut Lists, text: &[u8]) -> Result<(), ProofText>
         requires unspent { self.old.checker.spent ≡ false }
         requires small { self.old.count + 1 < 2 ^ 64 }
         ensures { IsStepped self.old text.now result self.new }
@@ -55,8 +58,8 @@ impl Check {
         if is_skipped(text) {
             return Ok(());
         }
-        let line = read_line(alloc, text)?;
-        self.step(&line)?;
+        let head = lists.read(text)?;
+        self.step(head, lists)?;
         Ok(())
     }
 
@@ -94,10 +97,11 @@ fn check_lines(
         count: 1,
         fault: None,
     };
+    let mut lists = Lists::new(alloc);
     let mut at = from;
     let mut line = u64::from(before) + 1;
     'lines: while let Some((text, next)) = next_line(bytes, at) {
-        match check.step_text(alloc, text) {
+        match check.step_text(&mut lists, text) {
             Ok(()) => {}
             Err(ProofText::Syntax) => return Ok(Verdict::NotText { line }),
             Err(ProofText::NoMemory) => return Err(NoMemory),

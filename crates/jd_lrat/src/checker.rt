@@ -1,11 +1,14 @@
-//! The checker of lines.
+//! The checker of lines: the clauses by id, the marks of the derivation at hand, and whether the
+//! empty clause was there. A line that isn't right changes nothing.
 ghost use Rattle.std.specs.Prelude.{◌≡◌, ℕ, ◌<◌, [], false, OnOk, IfOk};
 ghost use Rattle.jd_logic.specs.Literals.{AreLiterals, AreHints, AreIds};
 ghost use Rattle.jd_logic.specs.Checking.{begun, with_clause};
 ghost use Rattle.jd_logic.specs.declared.Line.TheVariants.{Derive, Delete};
 ghost use Rattle.jd_lrat.specs.Answers.{Answers};
+ghost use Rattle.jd_lrat.specs.LineTexts.{HasRanges, line_in};
 
 use crate::derivation::fault;
+use crate::line_text::{Head, Lists};
 use crate::marks::Marks;
 use crate::store::Store;
 use crate::{Clauses, LineFault, NoMemory};
@@ -106,8 +109,22 @@ impl Checker {
         }
     }
 
+    /// Applies the line that lists hold, as `line` does.
+    pub(crate) fn take(&mut self, head: Head, lists: &Lists) -> Result<(), LineFault>
+        requires { HasRanges head lists.now }
+        ensures { Answers self.old (line_in head lists.now) result self.new }
+    {
+        if self.spent {
+            return Err(LineFault::NoMemory);
+        }
+        match head {
+            Head::Derive(id) => self.derive(id, lists.literals.as_slice(), lists.hints.as_slice()),
+            Head::Delete => self.delete(lists.ids.as_slice()),
+        }
+    }
+
     /// A checker that keeps these clauses, with no copy of them; their ids are 1, 2 and so on.
-    pub(crate) fn of_clauses(alloc: Global, clauses: Clauses) -> Result<Checker, NoMemory>
+    pub fn of_clauses(alloc: Global, clauses: Clauses) -> Result<Checker, NoMemory>
         ensures { IfOk result (λ c. c ≡ record { state = begun clauses; spent = false }) }
     {
         let refuted = clauses.has_empty();

@@ -9,7 +9,7 @@ use Rattle.std.proofs.lemmas.Bool.Decides.{nat_tests}
 use Rattle.std.proofs.lemmas.List.{take-append-drop}
 use Rattle.hp_model.specs.Words.{number_of_bits}
 use Rattle.jd_model.specs.Problems.{Field, is_fixed_below, are_in_fields, is_in_field, bits_of, bits_in, free_width, free_widths, number_in_field, numbers_in}
-use Rattle.jd_model.proofs.Tests.{left-part, right-part, test-less}
+use Rattle.jd_text.proofs.Tests.{left-part, right-part, test-less}
 
 -- ---- one number
 

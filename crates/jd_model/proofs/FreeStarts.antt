@@ -3,10 +3,10 @@ use Rattle.std.proofs.Common.{◌≡◌, ℕ, zero, suc, ◌+◌, ◌^◌, ◌<�
 use Rattle.std.specs.Cmp.Derive.{both_true}
 use Rattle.std.proofs.lemmas.Bool.{eqb-true, ltb-true, false≢true}
 use Rattle.std.proofs.lemmas.Bool.Decides.{nat_tests}
-use Rattle.hp_model.specs.Rows.{bit_number}
+use Rattle.hp_model.specs.WordOperations.{bit_number}
 use Rattle.hp_model.specs.State.{Data}
-use Rattle.jd_model.specs.Problems.{Problem, IsProblem, part_limit, is_fixed_below, are_fixed_from, Field, field, fields, nibble_count, numbers, start_with, allows, are_in_fields, is_in_field, is_fixed_at, bits, bits_in, free_bits, numbers_in, start_of, AreBitsOfStarts}
-use Rattle.jd_model.proofs.Tests.{left-part, right-part}
+use Rattle.jd_model.specs.Problems.{Problem, IsProblem, part_limit, is_fixed_below, are_fixed_from, Field, field, fields, nibble_count, numbers, start_with, in_range, are_in_fields, is_in_field, is_fixed_at, bits, bits_in, free_bits, numbers_in, start_of, AreBitsOfStarts}
+use Rattle.jd_text.proofs.Tests.{left-part, right-part}
 use Rattle.jd_model.proofs.FreeBits.{are_fixed_within, numbers-bits, fields-numbers, bits-numbers, length-bits_in}
 
 -- ---- the flags as numbers and back
@@ -34,15 +34,15 @@ start-numbers s six =
     ∙ ap (λ fs. record s { flags = fs; nibbles = drop (length s.flags) all }) (flags-back s.flags s.nibbles)
     ∙ ap (λ ns. record s { nibbles = ns }) (nibbles-after-flags s.flags s.nibbles)
 
--- what an allowed start has
-pub six-flags : (p : Problem) (s : Data) → allows p s ≡ true → length s.flags ≡ 6
+-- what a start in range has
+pub six-flags : (p : Problem) (s : Data) → in_range p s ≡ true → length s.flags ≡ 6
 six-flags p s h = eqb-true (length s.flags) 6 (left-part (length s.flags == 6) (are_in_fields (fields p) (numbers s)) h)
 
-pub numbers-in-fields : (p : Problem) (s : Data) → allows p s ≡ true → are_in_fields (fields p) (numbers s) ≡ true
+pub numbers-in-fields : (p : Problem) (s : Data) → in_range p s ≡ true → are_in_fields (fields p) (numbers s) ≡ true
 numbers-in-fields p s h = right-part (length s.flags == 6) (are_in_fields (fields p) (numbers s)) h
 
 -- the start of the free bits of a start
-start-bits : (p : Problem) (s : Data) → allows p s ≡ true → start_of p (bits p s) ≡ s
+start-bits : (p : Problem) (s : Data) → in_range p s ≡ true → start_of p (bits p s) ≡ s
 start-bits p s h = ap start_with (numbers-bits (fields p) (numbers s) (numbers-in-fields p s h)) ∙ start-numbers s (six-flags p s h)
 
 -- ---- the numbers of the start of some numbers
@@ -132,6 +132,6 @@ pub bits-of-starts : (p : Problem) → IsProblem p → AreBitsOfStarts p
 bits-of-starts p is = record {
   count = λ s h. length-bits_in (fields p) (numbers s) (numbers-in-fields p s h);
   start = start-bits p;
-  allowed = λ bs count. ap (are_in_fields (fields p)) (numbers-start p bs (in-fields p bs is count)) ∙ in-fields p bs is count;
+  ranged = λ bs count. ap (are_in_fields (fields p)) (numbers-start p bs (in-fields p bs is count)) ∙ in-fields p bs is count;
   same_bits = λ bs count. ap (bits_in (fields p)) (numbers-start p bs (in-fields p bs is count)) ∙ bits-numbers (fields p) bs count;
 }

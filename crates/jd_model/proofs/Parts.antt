@@ -3,10 +3,10 @@ use Rattle.std.proofs.Common.{◌≡◌, ℕ, suc, ◌<◌, ◌≤◌, ◌&&◌,
 use Rattle.std.specs.List.{list_any}
 use Rattle.std.proofs.Math.Seq.{set-append_seam}
 use Rattle.std.proofs.lemmas.Bool.Decides.{nat_tests}
-use Rattle.jd_model.specs.ProblemLines.{part_names, part_named, with_part, parts_named}
-use Rattle.jd_model.specs.ProblemTexts.{has_twice, marked}
+use Rattle.jd_model.specs.ProblemLines.{part_names, part_named, with_part, parts_named, marked}
+use Rattle.jd_model.specs.ProblemTexts.{has_twice}
 use Rattle.jd_model.specs.ProblemWriter.{chosen}
-use Rattle.jd_model.proofs.Tests.{left-part, right-part, is_found, found-is}
+use Rattle.jd_text.proofs.Tests.{left-part, right-part, is_found, found-is}
 
 -- whether these are the names of the parts from part k on
 abbrev pub are_names_from : ℕ → List (List ℕ) → Bool

@@ -5,13 +5,13 @@ use Rattle.std.specs.Prelude.{Ok, Err, Result, All, ⊤}
 use Rattle.std.specs.List.{list_all}
 use Rattle.std.proofs.lemmas.Bool.Decides.{nat_tests}
 use Rattle.std.proofs.lemmas.List.Elements.{All-head, All-tail}
-use Rattle.jd_logic.specs.Words.{words_of}
+use Rattle.jd_text.specs.Words.{words_of, word_lines}
 use Rattle.jd_model.specs.declared.causes.AsmCause.{AsmCause}
 use Rattle.jd_model.specs.declared.causes.AsmCause.TheVariants.{UnknownWord, BadOperand, TooManyLines, FloatKey}
-use Rattle.jd_model.specs.Texts.{word_lines, read_lines}
+use Rattle.jd_text.specs.Readings.{read_lines}
 use Rattle.jd_model.specs.Assembly.{text_of_code, code_of_words, begins_text, is_float_key, with_line, IsRoutine, assembled, listing, code_text, codes_text, code_of_word, with_codes, routine_of_codes}
-use Rattle.jd_model.proofs.Tests.{left-part, right-part, passes_from, passes_at, is_found, found-is}
-use Rattle.jd_model.proofs.Lines.{has_no_end, line-first, is_proper, word-lines-line, read-good}
+use Rattle.jd_text.proofs.Tests.{left-part, right-part, passes_from, passes_at, is_found, found-is}
+use Rattle.jd_text.proofs.WrittenLines.{has_no_end, line-first, is_proper, word-lines-line, read-good}
 
 -- ---- each code's line
 

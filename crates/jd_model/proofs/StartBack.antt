@@ -1,5 +1,5 @@
 -- A start's text reads back as the start.
-use Rattle.std.proofs.Common.{◌≡◌, ℕ, zero, suc, ◌+◌, ◌-◌, ◌^◌, ◌<◌, ◌≤◌, ◌==◌, Bool, true, false, cond, List, [], ◌∷◌, ◌++◌, length, map, take, drop, replicate, Option, Some, None, refl, ap, ◌∙◌, arith, append-nil, get_or, nat_lt, lit≤}
+use Rattle.std.proofs.Common.{◌≡◌, ℕ, zero, suc, ◌+◌, ◌-◌, ◌^◌, ◌<◌, ◌≤◌, ◌==◌, ◌&&◌, ◌||◌, not, Bool, true, false, cond, List, [], ◌∷◌, ◌++◌, length, map, take, drop, replicate, Option, Some, None, refl, ap, ◌∙◌, arith, append-nil, get_or, nat_lt, lit≤}
 use Rattle.std.specs.Prelude.{Ok, Err, Result, codes, slice_index_or}
 use Rattle.std.specs.Cmp.Derive.{both_true}
 use Rattle.std.specs.Fmt.{digit_glyph}
@@ -7,18 +7,19 @@ use Rattle.std.specs.List.{list_all}
 use Rattle.std.proofs.Math.Nat.{pow-le-pow_right}
 use Rattle.std.proofs.lemmas.Bool.{eqb-true, ltb-true, false≢true}
 use Rattle.std.proofs.lemmas.List.{length-replicate}
-use Rattle.hp_model.specs.Rows.{bit_number}
+use Rattle.hp_model.specs.WordOperations.{bit_number}
 use Rattle.hp_model.specs.State.{Data}
-use Rattle.jd_logic.specs.Words.{is_text}
+use Rattle.jd_text.specs.Words.{is_text, word_lines}
 use Rattle.jd_model.specs.declared.causes.ProblemCause.{ProblemCause}
 use Rattle.jd_model.specs.declared.causes.ProblemCause.TheVariants.{Syntax, Range, Missing}
-use Rattle.jd_model.specs.Texts.{digit_value, word_lines, read_lines}
-use Rattle.jd_model.specs.Numbers.{are_digits, hexadecimal}
-use Rattle.jd_model.specs.Problems.{Problem, Field, field, fields, nibble_count, numbers, start_with, allows, are_in_fields, is_in_field, is_fixed_at}
-use Rattle.jd_model.specs.StartTexts.{line_names, StartReading, spelled, spelled_number, digits_below, line_fields, filled_up, with_numbers, with_start_line, start_of_text, with_nibble, nibbles_text, after_m, memory_words, flags_text, start_lines, start_text}
-use Rattle.jd_model.proofs.Tests.{left-part, right-part}
-use Rattle.jd_model.proofs.Lines.{is_letter, is_proper, are_proper, word-lines-written, read-good}
-use Rattle.jd_model.proofs.Digits.{glyph-value, letters-digits, hexadecimal-number, hexadecimal-proper}
+use Rattle.jd_text.specs.Digits.{digit_value, are_digits, hexadecimal}
+use Rattle.jd_text.specs.Readings.{read_lines}
+use Rattle.jd_model.specs.Assumptions.{meets}
+use Rattle.jd_model.specs.Problems.{Problem, Field, field, fields, nibble_count, nibble_fields, numbers, start_with, in_range, allows, are_in_fields, is_in_field, is_fixed_at}
+use Rattle.jd_model.specs.StartTexts.{line_names, StartReading, spelled, spelled_number, digits_below, line_fields, filled_up, are_met, with_numbers, with_start_line, start_of_text, with_nibble, nibbles_text, after_m, memory_words, flags_text, start_lines, start_text}
+use Rattle.jd_text.proofs.Tests.{left-part, right-part}
+use Rattle.jd_text.proofs.WrittenLines.{is_letter, is_proper, are_proper, word-lines-written, read-good}
+use Rattle.jd_text.proofs.WrittenNumbers.{glyph-value, letters-digits, hexadecimal-number, hexadecimal-proper}
 use Rattle.jd_model.proofs.FreeStarts.{start-numbers, six-flags, numbers-in-fields, at-field, in-width}
 
 -- a reading of a start
@@ -28,15 +29,15 @@ reading k ns = record { given = k; numbers = ns }
 -- a line of one number is read
 number-line : (p : Problem) (k : ℕ) (ns : List ℕ) (name : List ℕ) (f : Field) (n : ℕ) (lines : List (List (List ℕ)))
     → is_text (slice_index_or line_names k []) name ≡ true → ((words : List (List ℕ)) → spelled k words ≡ spelled_number words)
-    → line_fields p k ≡ f ∷ [] → n < 2 ^ 64 → is_in_field f n ≡ true
+    → line_fields p k ≡ f ∷ [] → (k == 9) ≡ false → n < 2 ^ 64 → is_in_field f n ≡ true
     → read_lines (with_start_line p) (suc k) (reading k ns) ((name ∷ hexadecimal n ∷ []) ∷ lines)
     ≡ read_lines (with_start_line p) (suc (suc k)) (reading (suc k) (ns ++ n ∷ [])) lines
-number-line p k ns name f n lines named spells fs small inside =
+number-line p k ns name f n lines named spells fs before small inside =
     read-good (with_start_line p) (suc k) (reading k ns) (reading (suc k) (ns ++ n ∷ [])) (name ∷ hexadecimal n ∷ []) lines
     (ap (λ b. cond b (with_numbers p (reading k ns) (spelled k (hexadecimal n ∷ []))) (Err Syntax)) named
     ∙ ap (with_numbers p (reading k ns)) (spells (hexadecimal n ∷ []) ∙ ap one (hexadecimal-number n small))
-    ∙ ap (λ fs. cond (are_in_fields fs (filled_up (length fs) (n ∷ []))) (Ok (reading (suc k) (ns ++ filled_up (length fs) (n ∷ [])))) (Err Range)) fs
-    ∙ rw inside)
+    ∙ ap (λ fs. cond (are_in_fields fs (filled_up (length fs) (n ∷ [])) && are_met p k (ns ++ filled_up (length fs) (n ∷ []))) (Ok (reading (suc k) (ns ++ filled_up (length fs) (n ∷ [])))) (Err Range)) fs
+    ∙ rw (inside, before))
   where
     one : Option ℕ → Option (List ℕ)
     one o = elim o [ None ↦ None | Some n ↦ Some (n ∷ []) ]
@@ -166,7 +167,7 @@ memory-step p ns nibbles inside =
     let filled : filled_up (length fs) (map digit_value (nibbles_text nibbles)) ≡ nibbles =
     ap (λ k. filled_up k (map digit_value (nibbles_text nibbles))) size ∙ nibbles-filled nibbles are.small in
     memory-said p ns (nibbles_text nibbles) (nibbles-digits nibbles are.small)
-    ∙ ap (λ all. cond (are_in_fields fs all) (Ok (reading 9 (ns ++ all))) (Err Range)) filled ∙ rw inside
+    ∙ ap (λ all. cond (are_in_fields fs all && are_met p 8 (ns ++ all)) (Ok (reading 9 (ns ++ all))) (Err Range)) filled ∙ rw inside
 
 -- ---- the whole start
 
@@ -213,11 +214,20 @@ are-short p s w h = record {
     short : (f : Field) (n : ℕ) → f.width ≤ 64 → is_in_field f n ≡ true → n < 2 ^ 64
     short f n w h = omega (arith, in-width f n h, pow-le-pow_right {n = 2} (lit≤ tt) w)
 
+-- the last line is taken where the numbers are those of a start that meets the assumptions
+end-step : (p : Problem) (s : Data) → length s.flags ≡ 6 → meets p.assumed s ≡ true
+    → with_start_line p (reading 9 (numbers s)) (codes "end" ∷ []) ≡ Ok (reading 10 (numbers s))
+end-step p s six met =
+    ap (λ ns. cond (meets p.assumed (start_with ns)) (Ok (reading 10 ns)) (Err Range)) (append-nil (numbers s))
+    ∙ ap (λ start. cond (meets p.assumed start) (Ok (reading 10 (numbers s))) (Err Range)) (start-numbers s six)
+    ∙ rw met
+
 -- the reading of a start's lines, where these are its parts
 start-read : (p : Problem) (x y z t last index : ℕ) (a b c d e f : Bool) (nibbles : List ℕ)
     → let s : Data = record { x = x; y = y; z = z; t = t; last = last; index = index; flags = six_bools a b c d e f; nibbles = nibbles } in
-    AreShort s → are_in_fields (fields p) (numbers s) ≡ true → read_lines (with_start_line p) 1 (reading 0 []) (start_lines s) ≡ Ok (reading 10 (numbers s))
-start-read p x y z t last index a b c d e f nibbles short h =
+    AreShort s → are_in_fields (fields p) (numbers s) ≡ true → meets p.assumed s ≡ true
+    → read_lines (with_start_line p) 1 (reading 0 []) (start_lines s) ≡ Ok (reading 10 (numbers s))
+start-read p x y z t last index a b c d e f nibbles short h met =
     let s : Data = record { x = x; y = y; z = z; t = t; last = last; index = index; flags = six_bools a b c d e f; nibbles = nibbles } in
     let take_line = with_start_line p in
     let flags : are_in_fields (line_fields p 7) (map bit_number s.flags) ≡ true = take-fields 6 (drop 6 (fields p)) (drop 6 (numbers s)) (drop-fields 6 (fields p) (numbers s) h) in
@@ -233,15 +243,15 @@ start-read p x y z t last index a b c d e f nibbles short h =
     let from_x : List (List (List ℕ)) = (codes "X" ∷ hexadecimal x ∷ []) ∷ from_y in
     let words = x ∷ y ∷ z ∷ t ∷ last ∷ index ∷ [] in
     read-good take_line 1 (reading 0 []) (reading 1 []) (codes "start" ∷ []) from_x refl
-    ∙ number-line p 1 [] (codes "X") (field p p.size 0) x from_y refl (λ words. refl) refl short.x (part-in p s 0 h (lit≤ tt))
-    ∙ number-line p 2 (take 1 words) (codes "Y") (field p p.size 1) y from_z refl (λ words. refl) refl short.y (part-in p s 1 h (lit≤ tt))
-    ∙ number-line p 3 (take 2 words) (codes "Z") (field p p.size 2) z from_t refl (λ words. refl) refl short.z (part-in p s 2 h (lit≤ tt))
-    ∙ number-line p 4 (take 3 words) (codes "T") (field p p.size 3) t from_last refl (λ words. refl) refl short.t (part-in p s 3 h (lit≤ tt))
-    ∙ number-line p 5 (take 4 words) (codes "L") (field p p.size 4) last from_index refl (λ words. refl) refl short.last (part-in p s 4 h (lit≤ tt))
-    ∙ number-line p 6 (take 5 words) (codes "I") (field p 64 5) index from_flags refl (λ words. refl) refl short.index (part-in p s 5 h (lit≤ tt))
+    ∙ number-line p 1 [] (codes "X") (field p p.size 0) x from_y refl (λ words. refl) refl refl short.x (part-in p s 0 h (lit≤ tt))
+    ∙ number-line p 2 (take 1 words) (codes "Y") (field p p.size 1) y from_z refl (λ words. refl) refl refl short.y (part-in p s 1 h (lit≤ tt))
+    ∙ number-line p 3 (take 2 words) (codes "Z") (field p p.size 2) z from_t refl (λ words. refl) refl refl short.z (part-in p s 2 h (lit≤ tt))
+    ∙ number-line p 4 (take 3 words) (codes "T") (field p p.size 3) t from_last refl (λ words. refl) refl refl short.t (part-in p s 3 h (lit≤ tt))
+    ∙ number-line p 5 (take 4 words) (codes "L") (field p p.size 4) last from_index refl (λ words. refl) refl refl short.last (part-in p s 4 h (lit≤ tt))
+    ∙ number-line p 6 (take 5 words) (codes "I") (field p 64 5) index from_flags refl (λ words. refl) refl refl short.index (part-in p s 5 h (lit≤ tt))
     ∙ read-good take_line 8 (reading 7 words) (reading 8 (words ++ map bit_number s.flags)) (codes "flags" ∷ flags_text s.flags ∷ []) from_memory (flags-step p words a b c d e f flags)
     ∙ read-good take_line 9 (reading 8 (words ++ map bit_number s.flags)) (reading 9 (numbers s)) (memory_words nibbles) from_end (memory-step p (words ++ map bit_number s.flags) nibbles memory)
-    ∙ ap (λ ns. Ok (reading 10 ns)) (append-nil (numbers s))
+    ∙ read-good take_line 10 (reading 9 (numbers s)) (reading 10 (numbers s)) (codes "end" ∷ []) [] (end-step p s refl met)
 
 -- a name and a number
 named-proper : (name : List ℕ) (n : ℕ) → is_proper name ≡ true → n < 2 ^ 64 → list_all is_proper (name ∷ hexadecimal n ∷ []) ≡ true
@@ -269,18 +279,20 @@ finished count r = elim r [ Err fault ↦ Err fault | Ok r ↦ cond (r.given == 
 -- a start's text reads back, part by part
 back-with : (p : Problem) (x y z t last index : ℕ) (flags : List Bool) (nibbles : List ℕ) → p.size ≤ 64
     → let s : Data = record { x = x; y = y; z = z; t = t; last = last; index = index; flags = flags; nibbles = nibbles } in
-    length flags ≡ 6 → are_in_fields (fields p) (numbers s) ≡ true → start_of_text p (start_text s) ≡ Ok s
-back-with p x y z t last index (a ∷ b ∷ c ∷ d ∷ e ∷ f ∷ []) nibbles w six h =
+    length flags ≡ 6 → are_in_fields (fields p) (numbers s) ≡ true → meets p.assumed s ≡ true → start_of_text p (start_text s) ≡ Ok s
+back-with p x y z t last index (a ∷ b ∷ c ∷ d ∷ e ∷ f ∷ []) nibbles w six h met =
     let s : Data = record { x = x; y = y; z = z; t = t; last = last; index = index; flags = six_bools a b c d e f; nibbles = nibbles } in
     let short = are-short p s w h in
     let are = nibbles-in-fields (nibble_count p) (field p 4 12).fixed nibbles (drop-fields 12 (fields p) (numbers s) h) in
     let lines : word_lines (start_text s) ≡ start_lines s = word-lines-written (start_lines s) (start-proper x y z t last index a b c d e f nibbles short are.small) in
     ap (λ ls. finished (length ls) (read_lines (with_start_line p) 1 (reading 0 []) ls)) lines
-    ∙ ap (finished (length (start_lines s))) (start-read p x y z t last index a b c d e f nibbles short h)
+    ∙ ap (finished (length (start_lines s))) (start-read p x y z t last index a b c d e f nibbles short h met)
     ∙ ap (λ s. Ok s) (start-numbers s six)
-back-with p x y z t last index (a ∷ b ∷ c ∷ d ∷ e ∷ f ∷ g ∷ flags) nibbles w six h = absurd (omega (arith, six))
-back-with p x y z t last index _ nibbles w six h = absurd (omega (arith, six))
+back-with p x y z t last index (a ∷ b ∷ c ∷ d ∷ e ∷ f ∷ g ∷ flags) nibbles w six h met = absurd (omega (arith, six))
+back-with p x y z t last index _ nibbles w six h met = absurd (omega (arith, six))
 
 pub start-back : (p : Problem) (s : Data) → p.size ≤ 64 → allows p s ≡ true → start_of_text p (start_text s) ≡ Ok s
 start-back p s most h =
-    back-with p s.x s.y s.z s.t s.last s.index s.flags s.nibbles most (six-flags p s h) (numbers-in-fields p s h)
+    let inside = left-part (in_range p s) (meets p.assumed s) h in
+    back-with p s.x s.y s.z s.t s.last s.index s.flags s.nibbles most (six-flags p s inside) (numbers-in-fields p s inside)
+    (right-part (in_range p s) (meets p.assumed s) h)

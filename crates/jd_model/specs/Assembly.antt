@@ -5,10 +5,11 @@ use Rattle.std.specs.List.{list_any, join_with_byte}
 use Rattle.hp_model.specs.Lists.{first_from}
 use Rattle.hp_model.specs.Codes.{operation_of}
 use Rattle.hp_model.specs.Texts.{text_of}
-use Rattle.jd_logic.specs.Words.{words_of, is_text}
+use Rattle.jd_text.specs.Words.{words_of, is_text, word_lines, are_texts}
 use Rattle.jd_model.specs.declared.causes.AsmCause.{AsmCause}
 use Rattle.jd_model.specs.declared.causes.AsmCause.TheVariants.{UnknownWord, BadOperand, TooManyLines, FloatKey}
-use Rattle.jd_model.specs.Texts.{word_lines, are_texts, digit_value, read_lines}
+use Rattle.jd_text.specs.Digits.{digit_value}
+use Rattle.jd_text.specs.Readings.{read_lines}
 
 -- ---- assembly
 

@@ -20,6 +20,6 @@ ProblemsReadBack = (p : Problem) → IsProblem p → problem_of (problem_text p)
 abbrev pub StartsReadBack : Type 0
 StartsReadBack = (p : Problem) (s : Data) → IsProblem p → allows p s ≡ true → start_of_text p (start_text s) ≡ Ok s
 
--- the free bits of a start and the start of some bits are inverse
+-- the free bits of a start in range and the start of some bits are inverse
 abbrev pub BitsOfStarts : Type 0
 BitsOfStarts = (p : Problem) → IsProblem p → AreBitsOfStarts p

@@ -1,6 +1,5 @@
-pub mod Texts
-pub mod Numbers
 pub mod Assembly
+pub mod Assumptions
 pub mod Problems
 pub mod ProblemLines
 pub mod ProblemTexts

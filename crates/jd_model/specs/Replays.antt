@@ -1,7 +1,7 @@
 -- A problem and what follows it in one text, and what a replay of a start prints.
 use Rattle.std.specs.Prelude.{ℕ, ◌+◌, Bool, true, false, List, ◌++◌, drop, codes, Result, Ok, Err}
 use Rattle.hp_model.specs.State.{Data}
-use Rattle.jd_logic.specs.Words.{bytes_of_lines}
+use Rattle.jd_text.specs.Lines.{bytes_of_lines}
 use Rattle.jd_model.specs.Problems.{Problem}
 use Rattle.jd_model.specs.ProblemTexts.{problem_of}
 use Rattle.jd_model.specs.StartTexts.{start_of_text}

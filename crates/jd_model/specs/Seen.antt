@@ -3,10 +3,10 @@ use Rattle.std.specs.Prelude.{ℕ, Bool, true, false, ◌&&◌, ◌==◌, List, 
 use Rattle.std.specs.Cmp.Lexicographic.{pointwise}
 use Rattle.hp_model.specs.declared.End.{End}
 use Rattle.hp_model.specs.declared.End.TheVariants.{Return, Halt, Error}
-use Rattle.hp_model.specs.State.{Control, Data, Machine}
+use Rattle.hp_model.specs.State.{Control, Data, Machine, memory_bytes}
 use Rattle.hp_model.specs.Run.{run}
-use Rattle.jd_model.specs.Numbers.{hexadecimal}
-use Rattle.jd_model.specs.Problems.{Problem, blocks, first_numbers}
+use Rattle.jd_text.specs.Digits.{hexadecimal}
+use Rattle.jd_model.specs.Problems.{Problem, blocks, content_numbers}
 use Rattle.jd_model.specs.ProblemLines.{part_names}
 use Rattle.jd_model.specs.ProblemWriter.{chosen}
 use Rattle.jd_model.specs.StartTexts.{memory_words}
@@ -19,6 +19,7 @@ pub data Seen : Type 0 where
 -- control where a run of a routine begins
 abbrev pub first_control : Problem → List ℕ → Control
 first_control p routine = record {
+  bytes = memory_bytes p.memory;
   size = p.size;
   mode = p.mode;
   base = p.base;
@@ -46,7 +47,7 @@ seen p routine s = seen_of_run (run p.steps (machine_at p routine s))
 
 -- the thirteen parts, each as a list of numbers
 abbrev pub parts_of : Data → List (List ℕ)
-parts_of d = map (λ n. n ∷ []) (first_numbers d) ++ d.nibbles ∷ []
+parts_of d = map (λ n. n ∷ []) (content_numbers d) ++ d.nibbles ∷ []
 
 abbrev pub same_end : End → End → Bool
 same_end Return Return = true
@@ -78,7 +79,7 @@ named _ _ = []
 
 -- the words of each part. The nibbles stand as in a start
 abbrev pub part_words : Data → List (List (List ℕ))
-part_words d = named part_names (first_numbers d) ++ memory_words d.nibbles ∷ []
+part_words d = named part_names (content_numbers d) ++ memory_words d.nibbles ∷ []
 
 abbrev pub seen_words : List Bool → Seen → List (List ℕ)
 seen_words observed late = codes "late" ∷ []

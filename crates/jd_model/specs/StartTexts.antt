@@ -1,14 +1,15 @@
 -- The text of a start: the start, or the first bad line and its cause; and its writer.
-use Rattle.std.specs.Prelude.{ℕ, suc, ◌+◌, ◌-◌, Bool, true, ◌||◌, ◌==◌, nat_lt, if◌then◌else◌, List, [], ◌∷◌, ◌++◌, length, take, map, reverse, replicate, codes, slice_index_or, Option, Some, None, Result, Ok, Err}
+use Rattle.std.specs.Prelude.{ℕ, suc, ◌+◌, ◌-◌, Bool, true, not, ◌&&◌, ◌||◌, ◌==◌, nat_lt, if◌then◌else◌, List, [], ◌∷◌, ◌++◌, length, take, map, reverse, replicate, codes, slice_index_or, Option, Some, None, Result, Ok, Err}
 use Rattle.std.specs.Fmt.{digit_glyph}
-use Rattle.hp_model.specs.Rows.{bit_number}
+use Rattle.hp_model.specs.WordOperations.{bit_number}
 use Rattle.hp_model.specs.State.{Data}
-use Rattle.jd_logic.specs.Words.{is_text}
+use Rattle.jd_text.specs.Words.{is_text, written, word_lines}
 use Rattle.jd_model.specs.declared.causes.ProblemCause.{ProblemCause}
 use Rattle.jd_model.specs.declared.causes.ProblemCause.TheVariants.{Syntax, Range, Missing}
-use Rattle.jd_model.specs.Texts.{written, word_lines, digit_value, read_lines}
-use Rattle.jd_model.specs.Numbers.{are_digits, hexadecimal_number, hexadecimal}
-use Rattle.jd_model.specs.Problems.{Problem, Field, field, nibble_count, are_in_fields, start_with}
+use Rattle.jd_text.specs.Digits.{digit_value, are_digits, hexadecimal_number, hexadecimal}
+use Rattle.jd_text.specs.Readings.{read_lines}
+use Rattle.jd_model.specs.Assumptions.{meets}
+use Rattle.jd_model.specs.Problems.{Problem, Field, field, nibble_fields, are_in_fields, start_with}
 use Rattle.jd_model.specs.ProblemLines.{part_names}
 
 -- the first words of the lines in order
@@ -61,18 +62,23 @@ line_fields p k =
     if nat_lt k 6 then field p p.size (k - 1) ∷ [] else
     if k == 6 then field p 64 5 ∷ [] else
     if k == 7 then field p 1 6 ∷ field p 1 7 ∷ field p 1 8 ∷ field p 1 9 ∷ field p 1 10 ∷ field p 1 11 ∷ [] else
-    replicate (nibble_count p) (field p 4 12)
+    nibble_fields p
 
 -- numbers with those that the text leaves out at the end, which are zero
 abbrev pub filled_up : ℕ → List ℕ → List ℕ
 filled_up count ns = ns ++ replicate (count - length ns) 0
+
+-- the last line is good where the numbers of all lines meet the assumptions
+abbrev pub are_met : Problem → ℕ → List ℕ → Bool
+are_met p k ns = not (k == 9) || meets p.assumed (start_with ns)
 
 abbrev pub with_numbers : Problem → StartReading → Option (List ℕ) → Result StartReading ProblemCause
 with_numbers p r None = Err Syntax
 with_numbers p r (Some ns) =
     let fs = line_fields p r.given in
     let all = filled_up (length fs) ns in
-    if are_in_fields fs all then Ok (record { given = suc r.given; numbers = r.numbers ++ all }) else Err Range
+    if are_in_fields fs all && are_met p r.given (r.numbers ++ all)
+    then Ok (record { given = suc r.given; numbers = r.numbers ++ all }) else Err Range
 
 -- a start with one more line, or why the line is bad. A line without words says nothing
 abbrev pub with_start_line : Problem → StartReading → List (List ℕ) → Result StartReading ProblemCause

@@ -1,6 +1,6 @@
 ghost use Rattle.jd_model.specs.Laws.{RoutinesReadBack, ProblemsReadBack, StartsReadBack, BitsOfStarts};
 ghost use Rattle.jd_model.specs.WorkedTexts.{WorkedTexts};
-ghost use Rattle.jd_model.specs.WorkedProblems.{WorkedProblems, WorkedStarts, WorkedBits};
+ghost use Rattle.jd_model.specs.WorkedProblems.{WorkedProblems, WorkedVersions, WorkedStarts, WorkedBits};
 ghost use Rattle.jd_model.specs.WorkedReplays.{WorkedReplays};
 
 /// The definitions of assembly and codes give what the worked examples say.
@@ -11,6 +11,11 @@ pub fn worked_texts()
 /// The same of problems.
 pub fn worked_problems()
     ensures { WorkedProblems }
+{}
+
+/// The same of problems of version 2.
+pub fn worked_versions()
+    ensures { WorkedVersions }
 {}
 
 /// The same of starts.

@@ -3,9 +3,11 @@
 //! definitions and code share stand here.
 #![tactic(auto)]
 
+pub mod assumptions;
 pub mod causes;
 pub mod laws;
 pub mod line_kinds;
 
+pub use assumptions::{Against, Assume, NumPart, Relation};
 pub use causes::{AsmCause, ProblemCause};
-pub use line_kinds::LineKind;
+pub use line_kinds::{LineKind, Version};

@@ -4,7 +4,7 @@ use Rattle.std.specs.Prelude.{◌==◌, nat_lt}
 use Rattle.std.specs.Fmt.{digits, digits_onto, digit_glyph}
 use Rattle.std.proofs.lemmas.Bool.Decides.{nat_tests}
 use Rattle.std.proofs.lemmas.Fmt.{hex_one_digit}
-use Rattle.jd_model.specs.Numbers.{hexadecimal}
+use Rattle.jd_text.specs.Digits.{hexadecimal}
 
 -- the digits of a number up to a size, before others
 abbrev onto : ℕ → ℕ → List ℕ → List ℕ

@@ -1,7 +1,6 @@
-// Words of digits as numbers.
+//! Words of digits as numbers, with the range that so many digits have.
 ghost use Rattle.std.specs.Prelude.{◌≡◌, ◌+◌, ◌*◌, ◌^◌, ◌<◌, ◌≤◌, IfSome};
-ghost use Rattle.jd_model.specs.Texts.{digit_value};
-ghost use Rattle.jd_model.specs.Numbers.{are_digits, number_in, decimal_number, hexadecimal_number};
+ghost use Rattle.jd_text.specs.Digits.{digit_value, are_digits, number_in, decimal_number, hexadecimal_number};
 
 /// The value of a hexadecimal digit in either case, or 16.
 pub fn digit_value(b: u8) -> u8

@@ -1,8 +1,9 @@
-// Numbers and digits, added to a text.
-ghost use Rattle.std.specs.Prelude.{◌≡◌, ◌+◌, ◌<◌, ◌≤◌, ◌∷◌, [], ◌++◌, length, true, decimal};
+//! Digits and numbers added to a text of fixed room, whatever the room is. Whoever writes digits
+//! writes them by these.
+ghost use Rattle.std.specs.Prelude.{◌≡◌, ◌+◌, ◌<◌, ◌≤◌, ◌∷◌, [], ◌++◌, length, if◌then◌else◌, true, decimal};
 ghost use Rattle.std.specs.Fmt.{digit_glyph};
 ghost use Rattle.arrayvec.specs.ArrayString.{array_string_len};
-ghost use Rattle.jd_model.specs.Numbers.{hexadecimal};
+ghost use Rattle.jd_text.specs.Digits.{hexadecimal};
 
 use arrayvec::ArrayString;
 use itoa::Buffer;
@@ -20,6 +21,14 @@ pub fn push_digit<const CAP: usize>(text: &mut ArrayString<CAP>, digit: u8)
         b'A' + (digit - 10)
     };
     text.push(glyph as char);
+}
+
+/// The digit of a truth value, as flags are written: 1 where it holds, else 0.
+pub fn flag_digit(flag: bool) -> char
+    ensures digit { result ≡ (if flag then 49 else 48) }
+    ensures ascii { result < 128 }
+{
+    if flag { '1' } else { '0' }
 }
 
 /// Adds the hexadecimal digits of a number.

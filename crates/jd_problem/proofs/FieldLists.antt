@@ -3,10 +3,9 @@ use Rattle.std.proofs.Common.{◌≡◌, ℕ, zero, suc, ◌+◌, ◌-◌, ◌*�
 use Rattle.std.proofs.lemmas.Bool.{false≢true}
 use Rattle.std.proofs.lemmas.Bool.Decides.{nat_tests}
 use Rattle.std.proofs.lemmas.List.{drop-drop, length-replicate, length-map}
-use Rattle.hp_model.specs.Rows.{bit_number}
+use Rattle.hp_model.specs.WordOperations.{bit_number}
 use Rattle.hp_model.specs.State.{Data}
-use Rattle.jd_model.specs.Problems.{Problem, Field, field, fields, first_numbers, numbers, start_with, start_of, allows, free_bits, free_width, free_widths, is_in_field, are_in_fields, number_in_field, numbers_in}
-use Rattle.jd_problem.specs.Fields.{first_fields, nibble_fields}
+use Rattle.jd_model.specs.Problems.{Problem, Field, field, content_fields, nibble_fields, fields, content_numbers, numbers, start_with, start_of, in_range, free_bits, free_width, free_widths, is_in_field, are_in_fields, number_in_field, numbers_in}
 
 pub free_widths-append : (fs gs : List Field) → free_widths (fs ++ gs) ≡ free_widths fs + free_widths gs
 free_widths-append [] gs = omega arith
@@ -79,34 +78,34 @@ module _ (p : Problem) where
   part : (w k : ℕ) → free_width (field p w k) ≤ w
   part w k = free_width-most w (get_or p.fixed k None)
 
-  pub free_bits-sum : free_bits p ≡ free_widths (first_fields p) + free_widths (nibble_fields p)
-  free_bits-sum = free_widths-append (first_fields p) (nibble_fields p)
+  pub free_bits-sum : free_bits p ≡ free_widths (content_fields p) + free_widths (nibble_fields p)
+  free_bits-sum = free_widths-append (content_fields p) (nibble_fields p)
 
-  pub free_bits-most : p.size ≤ 64 → free_widths (nibble_fields p) ≤ 1624 → free_bits p ≤ 2014
+  pub free_bits-most : p.size ≤ 64 → free_widths (nibble_fields p) ≤ 4872 → free_bits p ≤ 5262
   free_bits-most size few =
       omega (arith, part p.size 0, part p.size 1, part p.size 2, part p.size 3, part p.size 4, part 64 5, part 1 6, part 1 7, part 1 8, part 1 9, part 1 10, part 1 11)
 
--- ---- the first numbers and the nibbles apart
+-- ---- the content and the nibbles apart
 
-pub start_of-parts : (p : Problem) (bs : List Bool) (first nibbles : List ℕ) → first ≡ numbers_in (first_fields p) bs
-    → nibbles ≡ numbers_in (nibble_fields p) (drop (free_widths (first_fields p)) bs) → start_with (first ++ nibbles) ≡ start_of p bs
+pub start_of-parts : (p : Problem) (bs : List Bool) (first nibbles : List ℕ) → first ≡ numbers_in (content_fields p) bs
+    → nibbles ≡ numbers_in (nibble_fields p) (drop (free_widths (content_fields p)) bs) → start_with (first ++ nibbles) ≡ start_of p bs
 start_of-parts p bs first nibbles f n =
-    ap (λ ns. start_with (ns ++ nibbles)) f ∙ ap (λ ns. start_with (numbers_in (first_fields p) bs ++ ns)) n
-    ∙ ap start_with (sym (numbers_in-append (first_fields p) (nibble_fields p) bs))
+    ap (λ ns. start_with (ns ++ nibbles)) f ∙ ap (λ ns. start_with (numbers_in (content_fields p) bs ++ ns)) n
+    ∙ ap start_with (sym (numbers_in-append (content_fields p) (nibble_fields p) bs))
 
 module _ (p : Problem) (s : Data) (six : length s.flags ≡ 6) where
-  allows-parts : allows p s ≡ (are_in_fields (first_fields p) (first_numbers s) && are_in_fields (nibble_fields p) s.nibbles)
-  allows-parts =
+  in_range-parts : in_range p s ≡ (are_in_fields (content_fields p) (content_numbers s) && are_in_fields (nibble_fields p) s.nibbles)
+  in_range-parts =
       ap (λ n. (n == 6) && are_in_fields (fields p) (numbers s)) six
-      ∙ are_in_fields-append (first_fields p) (nibble_fields p) (first_numbers s) s.nibbles (omega (arith, six, length-map s.flags bit_number))
+      ∙ are_in_fields-append (content_fields p) (nibble_fields p) (content_numbers s) s.nibbles (omega (arith, six, length-map s.flags bit_number))
 
-  module _ (fs : List Field) (ns : List ℕ) (passed : Bool) (is : passed ≡ are_in_fields fs ns) (f : fs ≡ first_fields p) (n : ns ≡ first_numbers s) where
-    parts-passed : allows p s ≡ (passed && are_in_fields (nibble_fields p) s.nibbles)
-    parts-passed = allows-parts ∙ ap (λ b. b && are_in_fields (nibble_fields p) s.nibbles) (sym (is ∙ ap (λ gs. are_in_fields gs ns) f ∙ ap (are_in_fields (first_fields p)) n))
+  module _ (fs : List Field) (ns : List ℕ) (passed : Bool) (is : passed ≡ are_in_fields fs ns) (f : fs ≡ content_fields p) (n : ns ≡ content_numbers s) where
+    parts-passed : in_range p s ≡ (passed && are_in_fields (nibble_fields p) s.nibbles)
+    parts-passed = in_range-parts ∙ ap (λ b. b && are_in_fields (nibble_fields p) s.nibbles) (sym (is ∙ ap (λ gs. are_in_fields gs ns) f ∙ ap (are_in_fields (content_fields p)) n))
 
-    pub allows-else : passed ≡ false → passed ≡ allows p s
-    allows-else fails = fails ∙ sym (parts-passed ∙ ap (λ b. b && are_in_fields (nibble_fields p) s.nibbles) fails)
+    pub in_range-else : passed ≡ false → passed ≡ in_range p s
+    in_range-else fails = fails ∙ sym (parts-passed ∙ ap (λ b. b && are_in_fields (nibble_fields p) s.nibbles) fails)
 
-    pub allows-then : passed ≡ true → (nibbles : List ℕ) (rest : Bool) → rest ≡ are_in_fields (nibble_fields p) nibbles → nibbles ≡ s.nibbles → rest ≡ allows p s
-    allows-then passes nibbles rest e same =
+    pub in_range-then : passed ≡ true → (nibbles : List ℕ) (rest : Bool) → rest ≡ are_in_fields (nibble_fields p) nibbles → nibbles ≡ s.nibbles → rest ≡ in_range p s
+    in_range-then passes nibbles rest e same =
         e ∙ ap (are_in_fields (nibble_fields p)) same ∙ sym (parts-passed ∙ ap (λ b. b && are_in_fields (nibble_fields p) s.nibbles) passes)

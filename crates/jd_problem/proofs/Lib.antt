@@ -1,3 +1,4 @@
+pub mod FirstWords
 pub mod Numbers
 pub mod FieldLists
 pub mod ProblemRanges

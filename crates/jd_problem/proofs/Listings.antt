@@ -4,11 +4,10 @@ use Rattle.std.specs.Prelude.{All, bytes_eq}
 use Rattle.std.proofs.lemmas.Bool.Decides.{nat_tests}
 use Rattle.std.proofs.lemmas.List.Elements.{All-head, All-tail}
 use Rattle.std.proofs.lemmas.Slice.Eq.{bytes_eq-Decides}
-use Rattle.jd_logic.specs.Words.{words_of}
-use Rattle.jd_model.specs.Texts.{line, written}
+use Rattle.jd_text.specs.Words.{words_of, line, written}
 use Rattle.jd_model.specs.Assembly.{IsRoutine, text_of_code, listing}
 use Rattle.jd_model.specs.ProblemWriter.{routine_lines}
-use Rattle.jd_model.proofs.Tests.{passes_from, passes_at}
+use Rattle.jd_text.proofs.Tests.{passes_from, passes_at}
 
 abbrev is_plain : ℕ → Bool
 is_plain code = bytes_eq (line (words_of (text_of_code code))) (text_of_code code ++ 10 ∷ [])

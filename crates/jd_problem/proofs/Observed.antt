@@ -6,9 +6,9 @@ use Rattle.std.proofs.Math.Bool.{or-true, or-false}
 use Rattle.std.proofs.lemmas.Bool.Decides.{nat_tests}
 use Rattle.std.proofs.lemmas.List.{length-set}
 use Rattle.std.proofs.lemmas.List.Quantifiers.{position-Some}
-use Rattle.jd_logic.specs.Words.{is_text}
-use Rattle.jd_model.specs.ProblemLines.{part_names, part_named, with_part, parts_named}
-use Rattle.jd_model.specs.ProblemTexts.{has_twice, marked}
+use Rattle.jd_text.specs.Words.{is_text}
+use Rattle.jd_model.specs.ProblemLines.{part_names, part_named, with_part, parts_named, marked}
+use Rattle.jd_model.specs.ProblemTexts.{has_twice}
 use Rattle.jd_start.specs.declared.parts.Parts.{Parts}
 use Rattle.jd_start.specs.Parts.{marks_of}
 use Rattle.jd_problem.specs.LineWords.{ObservesParts}

@@ -4,7 +4,7 @@ use Rattle.std.specs.List.{join_with_byte}
 use Rattle.std.proofs.lemmas.Grind.{flat_map-append}
 use Rattle.std.proofs.lemmas.Bool.Decides.{nat_tests}
 use Rattle.std.proofs.lemmas.List.{drop_more, drop_all, get_or_past}
-use Rattle.jd_model.specs.Texts.{line, written}
+use Rattle.jd_text.specs.Words.{line, written}
 use Rattle.jd_model.specs.ProblemWriter.{chosen, fix_line, fix_lines}
 use Rattle.jd_start.specs.Written.{spaced}
 use Rattle.jd_start.proofs.PartByPart.{chosen-next}

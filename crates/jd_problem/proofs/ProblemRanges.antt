@@ -2,7 +2,7 @@
 use Rattle.std.proofs.Common.{map, arith}
 use Rattle.std.proofs.lemmas.List.{length_push, length-map}
 use Rattle.std.specs.Prelude.{Some, None, option_map, if◌then◌else◌}
-use Rattle.hp_model.specs.Rows.{bit_number}
+use Rattle.hp_model.specs.WordOperations.{bit_number}
 use Rattle.jd_model.specs.Assembly.{IsRoutine}
 use Rattle.jd_model.specs.Problems.{IsProblem}
 use Rattle.jd_problem.specs.declared.problem.Problem.{Problem}
@@ -21,6 +21,8 @@ is-problem p first second = record {
   observed_count = omega (arith, p.observed.six_flags, length_push p.observed.flags p.observed.memory);
   fixed_count = omega (arith, p.fixed.six_flags, length-map p.fixed.flags (option_map bit_number), length_push (map (option_map bit_number) p.fixed.flags) (if p.fixed.memory then Some 0 else None));
   fixed_within = p.fixed_within;
+  assumed_count = p.assumed_within.few;
+  assumed_numbers = p.assumed_within.numbers;
   first_routine = first;
   second_routine = second;
 }

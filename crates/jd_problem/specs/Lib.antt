@@ -1,4 +1,3 @@
-pub mod Fields
 pub mod Problems
 pub mod StartReadings
 pub mod LineWords

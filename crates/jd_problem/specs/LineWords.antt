@@ -1,7 +1,7 @@
 -- The words of a problem's line after the first.
 use Rattle.std.specs.Prelude.{◌≡◌, ℕ, Bool, false, List, [], ◌∷◌, Option, Some, None, replicate}
-use Rattle.jd_model.specs.ProblemLines.{parts_named}
-use Rattle.jd_model.specs.ProblemTexts.{has_twice, marked}
+use Rattle.jd_model.specs.ProblemLines.{parts_named, marked}
+use Rattle.jd_model.specs.ProblemTexts.{has_twice}
 use Rattle.jd_start.specs.declared.parts.Parts.{Parts}
 use Rattle.jd_start.specs.Parts.{marks_of}
 

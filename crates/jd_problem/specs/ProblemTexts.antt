@@ -1,6 +1,6 @@
 -- A problem at the beginning of a text.
 use Rattle.std.specs.Prelude.{◌≡◌, ℕ, ◌≤◌, List, length, take, Ok}
-use Rattle.jd_logic.specs.Words.{lines_of, bytes_of_lines}
+use Rattle.jd_text.specs.Lines.{lines_of, bytes_of_lines}
 use Rattle.jd_model.specs.Problems.{Problem}
 use Rattle.jd_model.specs.ProblemTexts.{problem_of}
 

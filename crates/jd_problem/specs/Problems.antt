@@ -8,11 +8,13 @@ problem_of p = record {
   size = p.size.bits;
   mode = p.mode;
   base = p.base;
+  memory = p.memory;
   steps = p.steps;
   paths = p.paths;
   budget = p.budget;
   observed = marks_of p.observed;
   fixed = values_of p.fixed;
+  assumed = p.assumed;
   first = p.first;
   second = p.second;
 }

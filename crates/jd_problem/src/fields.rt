@@ -1,12 +1,12 @@
 // The numbers of a start: how many bits each has, and what it is fixed at.
 ghost use Rattle.std.specs.Prelude.{◌≡◌, ◌+◌, ◌*◌, ◌<◌, ◌≤◌, ◌^◌, true, length, drop};
-ghost use Rattle.hp_model.specs.Rows.{bit_number};
+ghost use Rattle.hp_model.specs.WordOperations.{bit_number};
 ghost use Rattle.hp_model.specs.Words.{number_of_bits};
 ghost use Rattle.jd_model.specs.Problems.{Field as FieldValue, is_fixed_below, is_in_field, are_in_fields, free_width, free_widths, number_in_field, numbers_in};
 
 use arrayvec::ArrayVec;
 use hp_words::WordSize;
-use jd_start::{FIRST_NUMBERS, bit_number};
+use jd_start::{CONTENT_NUMBERS, bit_number};
 use std::marker::Model;
 
 /// A number of a start: how many bits it has, 1 to 64, and what it is fixed at.
@@ -91,7 +91,7 @@ impl Field {
 
 /// How many bits are free in all.
 pub fn free_widths(fields: &[Field]) -> u32
-    requires { length fields.now ≤ FIRST_NUMBERS }
+    requires { length fields.now ≤ CONTENT_NUMBERS }
     ensures value { result ≡ free_widths fields.now }
     ensures bound { result ≤ 64 * length fields.now }
 {
@@ -116,8 +116,8 @@ pub fn are_in_fields(fields: &[Field], numbers: &[u64]) -> bool
 }
 
 /// The numbers that bits say, in order.
-pub fn numbers_in(fields: &[Field], bits: &[bool]) -> ArrayVec<u64, FIRST_NUMBERS>
-    requires fields { length fields.now ≤ FIRST_NUMBERS }
+pub fn numbers_in(fields: &[Field], bits: &[bool]) -> ArrayVec<u64, CONTENT_NUMBERS>
+    requires fields { length fields.now ≤ CONTENT_NUMBERS }
     requires bits { free_widths fields.now ≤ length bits.now }
     ensures { result.items ≡ numbers_in fields.now bits.now }
 {

@@ -19,9 +19,10 @@ mod start_writer;
 
 pub use faults::ProblemFault;
 pub use hp_asm::{AsmCause, Routine};
+pub use hp_model::Extent;
 pub use hp_words::{Base, Content, Mode, WordSize};
-pub use jd_model::ProblemCause;
-pub use jd_start::{Bits, Fixed, Nibbles, Part, Parts, Start};
+pub use jd_model::{Against, Assume, NumPart, ProblemCause, Relation};
+pub use jd_start::{Assumed, Bits, Fixed, Nibbles, Part, Parts, Start};
 pub use problem::Problem;
 pub use problem_reader::read_problem;
 pub use problem_writer::write_problem;

@@ -1,13 +1,14 @@
 // What the lines of a problem say after their first word.
 ghost use Rattle.std.specs.Prelude.{◌≡◌, ◌≤◌, [], ◌∷◌, length, MatchOption, option_map, Some, None};
-ghost use Rattle.jd_logic.specs.Words.{words_of};
+ghost use Rattle.jd_text.specs.Words.{words_of};
 ghost use Rattle.jd_text.specs.Places.{words_at};
-ghost use Rattle.jd_model.specs.ProblemLines.{number, part_at, one_number, parts_named, one_part_and_value};
+ghost use Rattle.jd_model.specs.ProblemLines.{number, part_at, assuming, one_number, parts_named, one_part_and_value, one_assumption};
 ghost use Rattle.jd_start.specs.Parts.{place_of};
 ghost use Rattle.jd_problem.specs.LineWords.{only_word, ObservesParts};
 
+use jd_model::Assume;
 use jd_numbers::{decimal_number, hexadecimal_number};
-use jd_start::{Part, Parts};
+use jd_start::{Part, Parts, against_named, num_part_named, relation_named};
 use jd_text::next_word;
 
 /// The word that stands alone from a place of a line on.
@@ -38,6 +39,20 @@ pub fn part_and_value(line: &[u8]) -> Option<(Part, u64)>
     let part = Part::named(name)?;
     let number = hexadecimal_number(value)?;
     Some((part, number))
+}
+
+/// A part, a relation, and a part or a number in hexadecimal.
+pub fn assumption(line: &[u8]) -> Option<Assume>
+    ensures { option_map assuming result ≡ one_assumption (words_of line.now) }
+{
+    let (left, at) = next_word(line, 0)?;
+    let (relation, at) = next_word(line, at)?;
+    let right = only_word(line, at)?;
+    Some(Assume {
+        left: num_part_named(left)?,
+        relation: relation_named(relation)?,
+        right: against_named(right)?,
+    })
 }
 
 /// Any number of parts, and whether one of them stands there twice.

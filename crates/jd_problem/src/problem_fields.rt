@@ -1,13 +1,12 @@
 // The fields of a problem's starts.
 ghost use Rattle.std.specs.Prelude.{◌≡◌, ◌+◌, ◌*◌, ◌≤◌, true, length, drop, replicate};
-ghost use Rattle.jd_model.specs.Problems.{IsProblem, field, nibble_count, is_fixed_below, are_in_fields, free_widths, numbers_in};
+ghost use Rattle.jd_model.specs.Problems.{IsProblem, content_fields, nibble_fields, field, nibble_count, is_fixed_below, are_in_fields, free_widths, numbers_in};
 ghost use Rattle.jd_start.specs.Parts.{place_of};
 ghost use Rattle.jd_problem.specs.Problems.{problem_of};
-ghost use Rattle.jd_problem.specs.Fields.{first_fields, nibble_fields};
 
 use crate::fields::Field;
 use crate::problem::Problem;
-use jd_start::{FIRST_NUMBERS, MOST_NIBBLES, Nibbles, Part, register_nibbles};
+use jd_start::{CONTENT_NUMBERS, MOST_NIBBLES, Nibbles, Part, register_nibbles};
 
 /// The field of a part's number.
 fn field(problem: &Problem, width: u8, part: Part) -> Field
@@ -18,9 +17,9 @@ fn field(problem: &Problem, width: u8, part: Part) -> Field
     Field::new(width, problem.fixed.value(part))
 }
 
-/// The fields of the numbers but for the nibbles.
-pub fn first_fields(problem: &Problem) -> [Field; FIRST_NUMBERS]
-    ensures { result ≡ first_fields (problem_of problem.now) }
+/// The fields of a content's numbers.
+pub fn content_fields(problem: &Problem) -> [Field; CONTENT_NUMBERS]
+    ensures { result ≡ content_fields (problem_of problem.now) }
 {
     let bits = problem.size.bits;
     [
@@ -53,7 +52,7 @@ pub fn nibble_count(problem: &Problem) -> u16
     ensures bound { result ≤ MOST_NIBBLES }
     ensures ranges { IsProblem (problem_of problem.now) }
 {
-    register_nibbles(problem.blocks())
+    register_nibbles(problem.memory, problem.blocks())
 }
 
 /// How many bits of the nibbles are free.
@@ -77,7 +76,7 @@ pub fn are_nibbles_in(field: &Field, nibbles: &[u8]) -> bool
 }
 
 /// Whether nibbles are as many as the problem's starts have, and each is in its field.
-pub fn allows_nibbles(problem: &Problem, nibbles: &[u8]) -> bool
+pub fn are_nibbles(problem: &Problem, nibbles: &[u8]) -> bool
     ensures { result ≡ are_in_fields (nibble_fields (problem_of problem.now)) nibbles.now }
 {
     nibbles.len() == usize::from(nibble_count(problem))

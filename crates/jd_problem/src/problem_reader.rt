@@ -32,7 +32,7 @@ impl TakesLines for Reading {
 
 impl TakesLinesToEnd for Reading {
     fn is_whole(&self) -> bool {
-        self.given == 11
+        self.has_ended()
     }
 }
 

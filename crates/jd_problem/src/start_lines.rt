@@ -1,17 +1,17 @@
 // The lines of a start.
-ghost use Rattle.std.specs.Prelude.{◌≡◌, ◌+◌, ◌<◌, ◌≤◌, ◌⊎◌, ◌∷◌, [], true, length, map, slice_index_or, Some, None, Ok, Err, OnOk, IfErr};
-ghost use Rattle.jd_logic.specs.Words.{words_of};
+ghost use Rattle.std.specs.Prelude.{◌≡◌, ◌+◌, ◌<◌, ◌≤◌, ◌∷◌, [], true, length, map, slice_index_or, Some};
+ghost use Rattle.jd_text.specs.Readings.{Takes};
+ghost use Rattle.jd_text.specs.Words.{words_of};
 ghost use Rattle.jd_text.specs.Places.{words_at};
-ghost use Rattle.jd_model.specs.Texts.{digit_value};
-ghost use Rattle.jd_model.specs.Numbers.{are_digits};
+ghost use Rattle.jd_text.specs.Digits.{digit_value, are_digits};
 ghost use Rattle.jd_model.specs.StartTexts.{line_names, no_numbers, spelled_number, spelled_flags, spelled_nibbles, spelled, filled_up, with_numbers, with_start_line};
 ghost use Rattle.jd_problem.specs.Problems.{problem_of};
-ghost use Rattle.jd_problem.specs.StartReadings.{first_given};
+ghost use Rattle.jd_problem.specs.StartReadings.{content_given};
 
 use crate::fields::are_in_fields;
 use crate::line_words::only_word;
 use crate::problem::Problem;
-use crate::problem_fields::{are_nibbles_in, first_fields, nibble_count, nibble_field};
+use crate::problem_fields::{are_nibbles_in, content_fields, nibble_count, nibble_field};
 use crate::start_reading::StartReading;
 use jd_model::ProblemCause;
 use jd_numbers::{are_digits, digit_value, hexadecimal_number};
@@ -46,12 +46,11 @@ fn take_numbers(
 ) -> Result<(), ProblemCause>
     requires from { 1 ≤ reading.old.given }
     requires to { reading.old.given ≤ 7 }
-    requires count { first_given reading.old.given + length numbers.now ≡ first_given (reading.old.given + 1) }
-    ensures taken { OnOk result (with_numbers (problem_of problem.now) reading.old (Some numbers.now) ≡ Ok reading.new) }
-    ensures cause { IfErr result (λ cause. with_numbers (problem_of problem.now) reading.old (Some numbers.now) ≡ Err cause) }
+    requires count { content_given reading.old.given + length numbers.now ≡ content_given (reading.old.given + 1) }
+    ensures { Takes (with_numbers (problem_of problem.now) reading.old (Some numbers.now)) result reading.new }
 {
     let first = usize::from(reading.given()) - 1;
-    let fields = first_fields(problem);
+    let fields = content_fields(problem);
     let fields = fields.as_slice();
     if !are_in_fields(&fields[first..first + numbers.len()], numbers) {
         return Err(ProblemCause::Range);
@@ -121,8 +120,7 @@ fn take_nibbles(
 ) -> Result<(), ProblemCause>
     requires line { reading.old.given ≡ 8 }
     requires digits { are_digits 16 word.now ≡ true }
-    ensures taken { OnOk result (with_numbers (problem_of problem.now) reading.old (Some (map digit_value word.now)) ≡ Ok reading.new) }
-    ensures cause { IfErr result (λ cause. with_numbers (problem_of problem.now) reading.old (Some (map digit_value word.now)) ≡ Err cause) }
+    ensures { Takes (with_numbers (problem_of problem.now) reading.old (Some (map digit_value word.now))) result reading.new }
 {
     let count = nibble_count(problem);
     if word.len() > usize::from(count) {
@@ -137,20 +135,40 @@ fn take_nibbles(
     Ok(())
 }
 
-/// Takes `start` or `end`, which no word follows.
-fn take_mark(
+/// Takes `start`, which no word follows.
+fn take_begin(
     problem: &Problem,
     reading: &mut StartReading,
     line: &[u8],
     at: usize,
 ) -> Result<(), ProblemCause>
     requires within { at ≤ length line.now }
-    requires line { (reading.old.given ≡ 0) ⊎ (reading.old.given ≡ 9) }
-    ensures taken { OnOk result (with_numbers (problem_of problem.now) reading.old (no_numbers (words_at line.now at)) ≡ Ok reading.new) }
-    ensures cause { IfErr result (λ cause. with_numbers (problem_of problem.now) reading.old (no_numbers (words_at line.now at)) ≡ Err cause) }
+    requires line { reading.old.given ≡ 0 }
+    ensures { Takes (with_numbers (problem_of problem.now) reading.old (no_numbers (words_at line.now at))) result reading.new }
 {
     if next_word(line, at).is_some() {
         return Err(ProblemCause::Syntax);
+    }
+    reading.take_numbers(&[]);
+    Ok(())
+}
+
+/// Takes `end`, which no word follows. The start must meet the assumptions.
+fn take_end(
+    problem: &Problem,
+    reading: &mut StartReading,
+    line: &[u8],
+    at: usize,
+) -> Result<(), ProblemCause>
+    requires within { at ≤ length line.now }
+    requires line { reading.old.given ≡ 9 }
+    ensures { Takes (with_numbers (problem_of problem.now) reading.old (no_numbers (words_at line.now at))) result reading.new }
+{
+    if next_word(line, at).is_some() {
+        return Err(ProblemCause::Syntax);
+    }
+    if !reading.meets(&problem.assumed) {
+        return Err(ProblemCause::Range);
     }
     reading.take_numbers(&[]);
     Ok(())
@@ -166,8 +184,7 @@ fn take_number(
     requires within { at ≤ length line.now }
     requires from { 1 ≤ reading.old.given }
     requires to { reading.old.given ≤ 6 }
-    ensures taken { OnOk result (with_numbers (problem_of problem.now) reading.old (spelled_number (words_at line.now at)) ≡ Ok reading.new) }
-    ensures cause { IfErr result (λ cause. with_numbers (problem_of problem.now) reading.old (spelled_number (words_at line.now at)) ≡ Err cause) }
+    ensures { Takes (with_numbers (problem_of problem.now) reading.old (spelled_number (words_at line.now at))) result reading.new }
 {
     let Some(word) = only_word(line, at) else {
         return Err(ProblemCause::Syntax);
@@ -187,8 +204,7 @@ fn take_flags(
 ) -> Result<(), ProblemCause>
     requires within { at ≤ length line.now }
     requires line { reading.old.given ≡ 7 }
-    ensures taken { OnOk result (with_numbers (problem_of problem.now) reading.old (spelled_flags (words_at line.now at)) ≡ Ok reading.new) }
-    ensures cause { IfErr result (λ cause. with_numbers (problem_of problem.now) reading.old (spelled_flags (words_at line.now at)) ≡ Err cause) }
+    ensures { Takes (with_numbers (problem_of problem.now) reading.old (spelled_flags (words_at line.now at))) result reading.new }
 {
     let Some(word) = only_word(line, at) else {
         return Err(ProblemCause::Syntax);
@@ -208,8 +224,7 @@ fn take_memory(
 ) -> Result<(), ProblemCause>
     requires within { at ≤ length line.now }
     requires line { reading.old.given ≡ 8 }
-    ensures taken { OnOk result (with_numbers (problem_of problem.now) reading.old (spelled_nibbles (words_at line.now at)) ≡ Ok reading.new) }
-    ensures cause { IfErr result (λ cause. with_numbers (problem_of problem.now) reading.old (spelled_nibbles (words_at line.now at)) ≡ Err cause) }
+    ensures { Takes (with_numbers (problem_of problem.now) reading.old (spelled_nibbles (words_at line.now at))) result reading.new }
 {
     match next_word(line, at) {
         None => take_nibbles(problem, reading, &[]),
@@ -231,14 +246,13 @@ fn take_words(
 ) -> Result<(), ProblemCause>
     requires within { at ≤ length line.now }
     requires line { reading.old.given < 10 }
-    ensures taken { OnOk result (with_numbers (problem_of problem.now) reading.old (spelled reading.old.given (words_at line.now at)) ≡ Ok reading.new) }
-    ensures cause { IfErr result (λ cause. with_numbers (problem_of problem.now) reading.old (spelled reading.old.given (words_at line.now at)) ≡ Err cause) }
+    ensures { Takes (with_numbers (problem_of problem.now) reading.old (spelled reading.old.given (words_at line.now at))) result reading.new }
 {
     match reading.given() {
-        0 => take_mark(problem, reading, line, at),
+        0 => take_begin(problem, reading, line, at),
         7 => take_flags(problem, reading, line, at),
         8 => take_memory(problem, reading, line, at),
-        9 => take_mark(problem, reading, line, at),
+        9 => take_end(problem, reading, line, at),
         _ => take_number(problem, reading, line, at),
     }
 }
@@ -249,8 +263,7 @@ pub fn take_start_line(
     reading: &mut StartReading,
     line: &[u8],
 ) -> Result<(), ProblemCause>
-    ensures taken { OnOk result (with_start_line (problem_of problem.now) reading.old (words_of line.now) ≡ Ok reading.new) }
-    ensures cause { IfErr result (λ cause. with_start_line (problem_of problem.now) reading.old (words_of line.now) ≡ Err cause) }
+    ensures { Takes (with_start_line (problem_of problem.now) reading.old (words_of line.now)) result reading.new }
 {
     match next_word(line, 0) {
         None => Ok(()),

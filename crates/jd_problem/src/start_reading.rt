@@ -1,18 +1,19 @@
 // A start as far as it is read.
 ghost use Rattle.std.specs.Prelude.{◌≡◌, suc, ◌+◌, ◌<◌, ◌≤◌, ◌++◌, length};
+ghost use Rattle.jd_model.specs.Assumptions.{meets};
 ghost use Rattle.jd_model.specs.Problems.{start_with};
 ghost use Rattle.jd_model.specs.StartTexts.{nothing_started};
-ghost use Rattle.jd_problem.specs.StartReadings.{first_given};
+ghost use Rattle.jd_problem.specs.StartReadings.{content_given};
 
 use arrayvec::ArrayVec;
-use jd_start::{FIRST_NUMBERS, Nibbles, Start, start_with};
+use jd_start::{Assumed, CONTENT_NUMBERS, Nibbles, Start, content_with, meets, start_with};
 use std::marker::Model;
 
 /// How many lines of a start were given, and their numbers. Contracts see the definitions' reading.
 #[derive(Drop)]
 pub struct StartReading {
     given: u8,
-    first: ArrayVec<u64, FIRST_NUMBERS>,
+    content: ArrayVec<u64, CONTENT_NUMBERS>,
     nibbles: Nibbles,
 }
 
@@ -22,9 +23,9 @@ impl Model for StartReading {
 
     ghost Value = { ReadingValue };
 
-    ghost view = { λ r. reading_in r.given r.first.items r.nibbles };
+    ghost view = { λ r. reading_in r.given r.content.items r.nibbles };
 
-    ghost invariant = { λ r. IsReading r.given r.first.items r.nibbles };
+    ghost invariant = { λ r. IsReading r.given r.content.items r.nibbles };
 }
 
 impl StartReading {
@@ -36,7 +37,7 @@ impl StartReading {
     {
         StartReading {
             given: 0,
-            first: ArrayVec::new(),
+            content: ArrayVec::new(),
             nibbles: Nibbles::new(),
         }
     }
@@ -52,11 +53,11 @@ impl StartReading {
     /// Takes a line with numbers other than nibbles, or with none.
     pub fn take_numbers(&mut self, numbers: &[u64])
         requires line { self.old.given < 10 }
-        requires count { first_given self.old.given + length numbers.now ≡ first_given (self.old.given + 1) }
+        requires count { content_given self.old.given + length numbers.now ≡ content_given (self.old.given + 1) }
         ensures { self.new ≡ record { given = suc self.old.given; numbers = self.old.numbers ++ numbers.now } }
     {
         self.given += 1;
-        self.first.try_extend_from_slice(numbers).unwrap();
+        self.content.try_extend_from_slice(numbers).unwrap();
     }
 
     /// Takes the line with the nibbles.
@@ -68,6 +69,14 @@ impl StartReading {
         self.nibbles = nibbles;
     }
 
+    /// Whether the start of all lines but the last meets assumptions.
+    pub fn meets(&self, assumed: &Assumed) -> bool
+        requires { self.now.given ≡ 9 }
+        ensures { result ≡ meets assumed.now (start_with self.now.numbers) }
+    {
+        meets(assumed, &content_with(self.content.as_slice()))
+    }
+
     /// The start of all lines.
     pub fn into_start(self) -> Start
         requires { self.given ≡ 10 }
@@ -75,9 +84,9 @@ impl StartReading {
     {
         let StartReading {
             given: _,
-            first,
+            content,
             nibbles,
         } = self;
-        start_with(first.as_slice(), nibbles)
+        start_with(content.as_slice(), nibbles)
     }
 }

@@ -3,8 +3,7 @@ ghost use Rattle.std.specs.Prelude.{◌≡◌, ℕ, ◌+◌, ◌<◌, ◌≤◌,
 ghost use Rattle.std.specs.Io.KnownBytes.{Appends};
 ghost use Rattle.arrayvec.specs.ArrayString.{array_string_len};
 ghost use Rattle.hp_io.specs.Causes.{HasCause};
-ghost use Rattle.hp_model.specs.Rows.{bit_number};
-ghost use Rattle.jd_model.specs.Texts.{line};
+ghost use Rattle.jd_text.specs.Words.{line};
 ghost use Rattle.jd_model.specs.Problems.{allows};
 ghost use Rattle.jd_model.specs.StartTexts.{flags_text, memory_words, start_of_text, start_text};
 ghost use Rattle.jd_problem.specs.Problems.{problem_of};
@@ -13,19 +12,15 @@ ghost use Rattle.jd_start.specs.Starts.{start_data};
 use crate::problem::Problem;
 use arrayvec::ArrayString;
 use hp_io::{Failed, Sink, write_whole};
+use jd_numbers::flag_digit;
 use jd_start::{MOST_NIBBLES, Nibbles, Start, push_nibbles, push_number_line};
 
-/// The digit of a flag.
-fn flag_digit(flag: bool) -> char
-    ensures digit { result ≡ 48 + bit_number flag }
-    ensures ascii { result < 128 }
-{
-    if flag { '1' } else { '0' }
-}
+/// Room for the text of any start.
+const ROOM: usize = 1536;
 
 /// Adds the digits of the flags, from flag 5 to flag 0.
-fn push_flags(text: &mut ArrayString<1024>, flags: &[bool; 6])
-    requires { array_string_len text.old + 6 ≤ 1024 }
+fn push_flags(text: &mut ArrayString<ROOM>, flags: &[bool; 6])
+    requires { array_string_len text.old + 6 ≤ ROOM }
     ensures text { text.new.bytes ≡ text.old.bytes ++ flags_text flags.now }
     ensures len { array_string_len text.new ≤ array_string_len text.old + 6 }
 {
@@ -35,8 +30,8 @@ fn push_flags(text: &mut ArrayString<1024>, flags: &[bool; 6])
 }
 
 /// Adds the line of the flags.
-fn push_flags_line(text: &mut ArrayString<1024>, flags: &[bool; 6])
-    requires { array_string_len text.old + 13 ≤ 1024 }
+fn push_flags_line(text: &mut ArrayString<ROOM>, flags: &[bool; 6])
+    requires { array_string_len text.old + 13 ≤ ROOM }
     ensures text { text.new.bytes ≡ text.old.bytes ++ line (codes "flags" ∷ flags_text flags.now ∷ []) }
     ensures len { array_string_len text.new ≤ array_string_len text.old + 13 }
 {
@@ -46,8 +41,8 @@ fn push_flags_line(text: &mut ArrayString<1024>, flags: &[bool; 6])
 }
 
 /// Adds the line of the register nibbles.
-fn push_memory_line(text: &mut ArrayString<1024>, nibbles: &Nibbles)
-    requires { array_string_len text.old + MOST_NIBBLES + 3 ≤ 1024 }
+fn push_memory_line(text: &mut ArrayString<ROOM>, nibbles: &Nibbles)
+    requires { array_string_len text.old + MOST_NIBBLES + 3 ≤ ROOM }
     ensures text { text.new.bytes ≡ text.old.bytes ++ line (memory_words nibbles.now) }
     ensures len { array_string_len text.new ≤ array_string_len text.old + MOST_NIBBLES + 3 }
 {
@@ -57,7 +52,7 @@ fn push_memory_line(text: &mut ArrayString<1024>, nibbles: &Nibbles)
 }
 
 /// The canonical text of a start.
-fn start_text(start: &Start) -> ArrayString<1024>
+fn start_text(start: &Start) -> ArrayString<ROOM>
     ensures { result.bytes ≡ start_text (start_data start.now) }
 {
     let content = &start.content;

@@ -1,10 +1,11 @@
 -- A text read up to the line that makes it whole, one line more.
 use Rattle.std.proofs.Common.{◌≡◌, ℕ, suc, ◌+◌, ◌≤◌, Bool, true, false, List, ◌∷◌, length, take, drop, map, refl, sym, ap, ◌∙◌, subst, arith, add-one}
 use Rattle.std.specs.Prelude.{Result, Ok}
-use Rattle.jd_logic.specs.Words.{lines_of, words_of, bytes_of_lines}
+use Rattle.jd_text.specs.Lines.{lines_of, bytes_of_lines}
+use Rattle.jd_text.specs.Words.{words_of, word_lines}
 use Rattle.jd_text.specs.Places.{IsLineTo}
 use Rattle.jd_text.proofs.LineFronts.{length-lines_of-front}
-use Rattle.jd_model.specs.Texts.{word_lines, read_until}
+use Rattle.jd_text.specs.Readings.{read_until}
 use Rattle.jd_readers.specs.Ends.{IsReadTo}
 
 -- so many lines stand before a place, and the lines from there on give what all give

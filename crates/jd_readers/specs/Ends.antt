@@ -1,7 +1,8 @@
 -- What is read at the beginning of a text.
 use Rattle.std.specs.Prelude.{◌≡◌, ℕ, ◌≤◌, Bool, List, length, take, Result, Ok}
-use Rattle.jd_logic.specs.Words.{lines_of, bytes_of_lines}
-use Rattle.jd_model.specs.Texts.{word_lines, read_until}
+use Rattle.jd_text.specs.Lines.{lines_of, bytes_of_lines}
+use Rattle.jd_text.specs.Words.{word_lines}
+use Rattle.jd_text.specs.Readings.{read_until}
 
 -- the lines up to the one that makes it whole end after so many bytes
 pub record IsReadTo {S C : Type 0} (whole : S → Bool) (missing : C) (with_line : S → List (List ℕ) → Result S C) (start : S) (text : List ℕ) (s : S) (end : ℕ) : Type 0 where

@@ -1,6 +1,8 @@
-// Texts that are read up to the line that ends what is read.
+//! Texts that go on after what is read: the reader says when it is whole, and the number of bytes
+//! up to there is answered.
 ghost use Rattle.std.specs.Prelude.{◌≡◌, ◌+◌, ◌<◌, ◌^◌, length, Err, IfOk, IfErr};
-ghost use Rattle.jd_model.specs.Texts.{word_lines, read_until};
+ghost use Rattle.jd_text.specs.Words.{word_lines};
+ghost use Rattle.jd_text.specs.Readings.{read_until};
 ghost use Rattle.jd_readers.specs.Ends.{IsReadTo};
 
 use crate::lines::TakesLines;

@@ -1,13 +1,16 @@
-// Texts that are read to their end.
-ghost use Rattle.std.specs.Prelude.{◌≡◌, ◌+◌, ◌<◌, ◌≤◌, ◌^◌, length, Ok, Err, IfOk, IfErr, OnOk};
-ghost use Rattle.jd_model.specs.Texts.{word_lines, read_lines};
+//! Texts that are read to their end: what takes a line is handed in, and the loop over the lines
+//! stands here alone.
+ghost use Rattle.std.specs.Prelude.{◌≡◌, ◌+◌, ◌<◌, ◌≤◌, ◌^◌, length, IfOk};
+ghost use Rattle.jd_text.specs.Words.{word_lines};
+ghost use Rattle.jd_text.specs.Readings.{Takes, read_lines};
 
 use jd_text::next_line;
 
 /// Takes the lines of a text one after another.
 pub trait TakesLines {
-    ghost use Rattle.std.specs.Prelude.{◌≡◌, ℕ, Bool, List, Result, Ok, Err, OnOk, IfErr};
-    ghost use Rattle.jd_logic.specs.Words.{words_of};
+    ghost use Rattle.std.specs.Prelude.{◌≡◌, ℕ, Bool, List, Result, OnOk};
+    ghost use Rattle.jd_text.specs.Words.{words_of};
+    ghost use Rattle.jd_text.specs.Readings.{Takes};
 
     /// Why a line is bad.
     type Cause: Copy;
@@ -25,10 +28,8 @@ pub trait TakesLines {
 
     /// Takes one more line, which has no line feed. What it leaves after an `Err` isn't said.
     fn take_line(&mut self, line: &[u8]) -> Result<(), Self::Cause>
-        ensures taken { OnOk result (Self.with_line self.old (Self.state self.old)
-            (words_of line.now) ≡ Ok (Self.state self.new)) }
-        ensures cause { IfErr result (λ cause. Self.with_line self.old (Self.state self.old)
-            (words_of line.now) ≡ Err cause) }
+        ensures takes { Takes (Self.with_line self.old (Self.state self.old) (words_of line.now))
+            result (Self.state self.new) }
         ensures kept { OnOk result (Self.with_line self.new ≡ Self.with_line self.old) };
 }
 
@@ -36,12 +37,10 @@ pub trait TakesLines {
 /// first bad line.
 pub fn read_lines<R: TakesLines>(reader: &mut R, text: &[u8]) -> Result<u32, (u32, R::Cause)>
     requires { length text.now + 1 < 2 ^ 32 }
-    ensures read { OnOk result (read_lines (R.with_line reader.old) 1 (R.state reader.old)
-        (word_lines text.now) ≡ Ok (R.state reader.new)) }
+    ensures takes { Takes (read_lines (R.with_line reader.old) 1 (R.state reader.old)
+        (word_lines text.now)) result (R.state reader.new) }
     ensures count { IfOk result (λ count. count ≡ length (word_lines text.now)) }
     ensures few { IfOk result (λ count. count ≤ length text.now) }
-    ensures fault { IfErr result (λ fault. read_lines (R.with_line reader.old) 1
-        (R.state reader.old) (word_lines text.now) ≡ Err fault) }
 {
     let mut at = 0;
     let mut count = 0;

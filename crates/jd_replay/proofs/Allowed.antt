@@ -2,10 +2,11 @@
 use Rattle.std.proofs.Common.{◌≡◌, ℕ, suc, ◌<◌, ◌≤◌, ◌^◌, true, List, [], ◌∷◌, length, map, refl, ap, arith, length-append}
 use Rattle.std.proofs.lemmas.List.{length-replicate, length-map}
 use Rattle.std.proofs.lemmas.Bool.{false≢true}
-use Rattle.hp_model.specs.Rows.{bit_number}
+use Rattle.hp_model.specs.WordOperations.{bit_number}
 use Rattle.hp_model.specs.State.{Data}
-use Rattle.jd_model.specs.Problems.{Problem, Field, field, fields, nibble_count, numbers, allows, are_in_fields, is_in_field}
-use Rattle.jd_model.proofs.Tests.{right-part}
+use Rattle.jd_model.specs.Assumptions.{meets}
+use Rattle.jd_model.specs.Problems.{Problem, Field, field, fields, nibble_count, numbers, in_range, allows, are_in_fields, is_in_field}
+use Rattle.jd_text.proofs.Tests.{left-part, right-part}
 use Rattle.jd_model.proofs.FreeStarts.{six-flags, numbers-in-fields, at-field, in-width}
 
 pub record HasParts (p : Problem) (s : Data) : Type 0 where
@@ -25,7 +26,8 @@ same-length (f ∷ fs) (n ∷ ns) h = ap suc (same-length fs ns (right-part (is_
 
 pub has-parts : (p : Problem) (s : Data) → allows p s ≡ true → HasParts p s
 has-parts p s h =
-    let inside : are_in_fields (fields p) (numbers s) ≡ true = numbers-in-fields p s h in
+    let ranged : in_range p s ≡ true = left-part (in_range p s) (meets p.assumed s) h in
+    let inside : are_in_fields (fields p) (numbers s) ≡ true = numbers-in-fields p s ranged in
     let enough : 12 ≤ length (fields p) = omega arith in
     let count : length (numbers s) ≡ length (fields p) = same-length (fields p) (numbers s) inside in
     record {
@@ -34,5 +36,5 @@ has-parts p s h =
       z = in-width (field p p.size 2) s.z (at-field (fields p) (numbers s) 2 (field p p.size 0) 0 inside (omega (arith, enough)));
       t = in-width (field p p.size 3) s.t (at-field (fields p) (numbers s) 3 (field p p.size 0) 0 inside (omega (arith, enough)));
       last = in-width (field p p.size 4) s.last (at-field (fields p) (numbers s) 4 (field p p.size 0) 0 inside (omega (arith, enough)));
-      nibbles = omega (arith, count, length-append (map bit_number s.flags) s.nibbles, length-map s.flags bit_number, six-flags p s h, length-replicate (nibble_count p) (field p 4 12));
+      nibbles = omega (arith, count, length-append (map bit_number s.flags) s.nibbles, length-map s.flags bit_number, six-flags p s ranged, length-replicate (nibble_count p) (field p 4 12));
     }

@@ -4,9 +4,9 @@ use Rattle.std.specs.Prelude.{◌||◌, bytes_eq}
 use Rattle.std.specs.Cmp.Lexicographic.{pointwise}
 use Rattle.std.proofs.Math.Seq.{drop-nil}
 use Rattle.std.proofs.lemmas.List.{drop_all, length-map}
-use Rattle.hp_model.specs.Rows.{bit_number}
+use Rattle.hp_model.specs.WordOperations.{bit_number}
 use Rattle.hp_model.specs.State.{Data}
-use Rattle.jd_model.specs.Problems.{first_numbers}
+use Rattle.jd_model.specs.Problems.{content_numbers}
 use Rattle.jd_model.specs.ProblemWriter.{chosen}
 use Rattle.jd_replay.specs.Agreement.{same_at, same_numbers, same_parts}
 
@@ -49,14 +49,14 @@ same-with (mark ∷ marks) (m ∷ firsts) (n ∷ seconds) ns ms f =
 
 -- the parts of two states are the same where their numbers are, and the nibbles if they are marked
 pub parts-decided : (marks : List Bool) (d c : Data) (numbers shown : Bool) → length d.flags ≡ 6 → length c.flags ≡ 6
-    → numbers ≡ same_numbers marks (first_numbers d) (first_numbers c) → shown ≡ get_or marks 12 false
+    → numbers ≡ same_numbers marks (content_numbers d) (content_numbers c) → shown ≡ get_or marks 12 false
     → (numbers && (not shown || bytes_eq d.nibbles c.nibbles)) ≡ same_parts marks d c
 parts-decided marks d c numbers shown here there numbers_are shown_is =
-    let firsts : length (first_numbers d) ≡ 12 = omega (arith, here, length-map d.flags bit_number) in
-    let seconds : length (first_numbers c) ≡ 12 = omega (arith, there, length-map c.flags bit_number) in
+    let firsts : length (content_numbers d) ≡ 12 = omega (arith, here, length-map d.flags bit_number) in
+    let seconds : length (content_numbers c) ≡ 12 = omega (arith, there, length-map c.flags bit_number) in
     ap (λ b. b && (not shown || bytes_eq d.nibbles c.nibbles)) numbers_are
-    ∙ ap (λ b. same_numbers marks (first_numbers d) (first_numbers c) && (not b || bytes_eq d.nibbles c.nibbles)) (shown_is ∙ ap (λ k. get_or marks k false) (sym firsts))
-    ∙ sym (same-with marks (first_numbers d) (first_numbers c) d.nibbles c.nibbles (omega (arith, firsts, seconds)))
+    ∙ ap (λ b. same_numbers marks (content_numbers d) (content_numbers c) && (not b || bytes_eq d.nibbles c.nibbles)) (shown_is ∙ ap (λ k. get_or marks k false) (sym firsts))
+    ∙ sym (same-with marks (content_numbers d) (content_numbers c) d.nibbles c.nibbles (omega (arith, firsts, seconds)))
 
 -- numbers from a place on
 numbers-from : (marks : List Bool) (firsts seconds : List ℕ) (i : ℕ) → i < length firsts → i < length seconds

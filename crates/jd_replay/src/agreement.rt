@@ -9,7 +9,7 @@ ghost use Rattle.jd_replay.specs.Seen.{seen_of};
 use crate::seen::Seen;
 use hp_model::End;
 use jd_problem::Problem;
-use jd_start::{FIRST_NUMBERS, Nibbles, Part, Parts, Start, first_numbers, part_at};
+use jd_start::{CONTENT_NUMBERS, Nibbles, Part, Parts, Start, content_numbers, part_at};
 
 /// Whether two runs end in the same way, errors with the same number.
 fn same_end(first: End, second: End) -> bool
@@ -29,10 +29,10 @@ fn same_end(first: End, second: End) -> bool
 fn same_at(
     observed: &Parts,
     place: usize,
-    first: &[u64; FIRST_NUMBERS],
-    second: &[u64; FIRST_NUMBERS],
+    first: &[u64; CONTENT_NUMBERS],
+    second: &[u64; CONTENT_NUMBERS],
 ) -> bool
-    requires { place < FIRST_NUMBERS }
+    requires { place < CONTENT_NUMBERS }
     ensures { result ≡ same_at (marks_of observed.now) first.now second.now place }
 {
     !observed.contains(part_at(place)) || first[place] == second[place]
@@ -41,12 +41,12 @@ fn same_at(
 /// Whether the observed numbers are the same, from X to flag 5.
 fn same_numbers(
     observed: &Parts,
-    first: &[u64; FIRST_NUMBERS],
-    second: &[u64; FIRST_NUMBERS],
+    first: &[u64; CONTENT_NUMBERS],
+    second: &[u64; CONTENT_NUMBERS],
 ) -> bool
     ensures { result ≡ same_numbers (marks_of observed.now) first.now second.now }
 {
-    for place in 0..FIRST_NUMBERS {
+    for place in 0..CONTENT_NUMBERS {
         if !same_at(observed, place, first, second) {
             return false;
         }
@@ -65,7 +65,7 @@ fn same_nibbles(first: &Nibbles, second: &Nibbles) -> bool
 fn same_parts(observed: &Parts, first: &Start, second: &Start) -> bool
     ensures { result ≡ same_parts (marks_of observed.now) (start_data first.now) (start_data second.now) }
 {
-    same_numbers(observed, &first_numbers(first), &first_numbers(second))
+    same_numbers(observed, &content_numbers(first), &content_numbers(second))
         && (!observed.contains(Part::M) || same_nibbles(&first.nibbles, &second.nibbles))
 }
 

@@ -9,6 +9,7 @@ mod seen_line;
 
 pub use agreement::agree;
 pub use hp_model::End;
+pub use jd_problem::{read_start, write_start};
 pub use replays::replay;
 pub use seen::Seen;
 pub use seen_line::{seen_text, write_seen};

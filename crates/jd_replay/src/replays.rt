@@ -19,14 +19,14 @@ fn register_nibbles_of(memory: &Memory) -> Nibbles
     ensures { result ≡ memory.now.nibbles }
 {
     let mut nibbles = Nibbles::new();
-    for j in 0..register_nibbles(memory.blocks()) {
+    for j in 0..register_nibbles(memory.extent(), memory.blocks()) {
         nibbles.push(memory.nibble(j));
     }
     nibbles
 }
 
-/// The state of a machine.
-fn state_of(machine: &Machine) -> Start
+/// The final state of a machine.
+fn final_state(machine: &Machine) -> Start
     ensures { start_data result ≡ data_of machine.now }
 {
     Start {
@@ -41,7 +41,12 @@ fn seen_of_routine(problem: &Problem, routine: &Routine, start: &Start) -> Seen
     requires room { length routine.now ≤ 7 * blocks (problem_of problem.now) }
     ensures { seen_of result ≡ seen (problem_of problem.now) routine.now (start_data start.now) }
 {
-    let memory = Memory::with(routine.codes(), problem.blocks(), start.nibbles.as_slice());
+    let memory = Memory::with(
+        problem.memory,
+        routine.codes(),
+        problem.blocks(),
+        start.nibbles.as_slice(),
+    );
     let mut machine = Machine::begin(
         problem.size,
         problem.mode,
@@ -51,11 +56,11 @@ fn seen_of_routine(problem: &Problem, routine: &Routine, start: &Start) -> Seen
     );
     match run(&mut machine, u32::from(problem.steps)) {
         RunEnd::Late => Seen::Late,
-        RunEnd::Ended(end) => Seen::Ended(end, state_of(&machine)),
+        RunEnd::Ended(end) => Seen::Ended(end, final_state(&machine)),
     }
 }
 
-/// Runs both routines from a start, each for at most the problem's steps.
+/// Runs both routines from a start in the problem's memory, each for at most the problem's steps.
 pub fn replay(problem: &Problem, start: &Start) -> (Seen, Seen)
     requires { allows (problem_of problem.now) (start_data start.now) ≡ true }
     ensures first { seen_of result.0 ≡ seen (problem_of problem.now) problem.now.first (start_data start.now) }

@@ -3,7 +3,7 @@ ghost use Rattle.std.specs.Prelude.{◌≡◌, ℕ, ◌+◌, ◌≤◌, ◌∷�
 ghost use Rattle.std.specs.Io.KnownBytes.{Appends};
 ghost use Rattle.arrayvec.specs.ArrayString.{array_string_len};
 ghost use Rattle.hp_io.specs.Causes.{HasCause};
-ghost use Rattle.jd_model.specs.Numbers.{hexadecimal};
+ghost use Rattle.jd_text.specs.Digits.{hexadecimal};
 ghost use Rattle.jd_model.specs.ProblemWriter.{chosen};
 ghost use Rattle.jd_model.specs.StartTexts.{memory_words};
 ghost use Rattle.jd_model.specs.Seen.{end_words, part_words, seen_words, seen_text, seen_line};
@@ -21,13 +21,16 @@ use hp_model::End;
 use jd_numbers::push_decimal;
 use jd_problem::Problem;
 use jd_start::{
-    FIRST_NUMBERS, MOST_NIBBLES, Nibbles, Part, Parts, Start, first_numbers, part_at, part_name,
-    push_nibbles, push_number, push_word,
+    CONTENT_NUMBERS, MOST_NIBBLES, Nibbles, Part, Parts, Start, content_numbers, part_at,
+    part_name, push_nibbles, push_number, push_word,
 };
 
+/// Room for the line of what is seen.
+const ROOM: usize = 1536;
+
 /// Adds the words of an end.
-fn push_end(text: &mut ArrayString<1024>, end: End)
-    requires { array_string_len text.old + 27 ≤ 1024 }
+fn push_end(text: &mut ArrayString<ROOM>, end: End)
+    requires { array_string_len text.old + 27 ≤ ROOM }
     ensures text { text.new.bytes ≡ text.old.bytes ++ spaced (end_words end) }
     ensures len { array_string_len text.new ≤ array_string_len text.old + 27 }
 {
@@ -43,8 +46,8 @@ fn push_end(text: &mut ArrayString<1024>, end: End)
 }
 
 /// Adds a part's name and number, if it is shown.
-fn push_part(text: &mut ArrayString<1024>, shown: bool, name: &str, n: u64)
-    requires { array_string_len text.old + length name.now + 18 ≤ 1024 }
+fn push_part(text: &mut ArrayString<ROOM>, shown: bool, name: &str, n: u64)
+    requires { array_string_len text.old + length name.now + 18 ≤ ROOM }
     ensures text { text.new.bytes ≡ text.old.bytes ++ phrases (if shown then (name.now ∷ hexadecimal n ∷ []) ∷ [] else []) }
     ensures len { array_string_len text.new ≤ array_string_len text.old + length name.now + 18 }
 {
@@ -55,8 +58,8 @@ fn push_part(text: &mut ArrayString<1024>, shown: bool, name: &str, n: u64)
 }
 
 /// Adds the words of the register nibbles, if they are shown.
-fn push_memory(text: &mut ArrayString<1024>, shown: bool, nibbles: &Nibbles)
-    requires { array_string_len text.old + MOST_NIBBLES + 3 ≤ 1024 }
+fn push_memory(text: &mut ArrayString<ROOM>, shown: bool, nibbles: &Nibbles)
+    requires { array_string_len text.old + MOST_NIBBLES + 3 ≤ ROOM }
     ensures text { text.new.bytes ≡ text.old.bytes ++ phrases (if shown then memory_words nibbles.now ∷ [] else []) }
     ensures len { array_string_len text.new ≤ array_string_len text.old + MOST_NIBBLES + 3 }
 {
@@ -67,13 +70,13 @@ fn push_memory(text: &mut ArrayString<1024>, shown: bool, nibbles: &Nibbles)
 }
 
 /// Adds the words of the observed parts.
-fn push_parts(text: &mut ArrayString<1024>, observed: &Parts, start: &Start)
-    requires { array_string_len text.old + 649 ≤ 1024 }
+fn push_parts(text: &mut ArrayString<ROOM>, observed: &Parts, start: &Start)
+    requires { array_string_len text.old + 1461 ≤ ROOM }
     ensures text { text.new.bytes ≡ text.old.bytes ++ phrases (chosen (marks_of observed.now) (part_words (start_data start.now))) }
-    ensures len { array_string_len text.new ≤ array_string_len text.old + 649 }
+    ensures len { array_string_len text.new ≤ array_string_len text.old + 1461 }
 {
-    let numbers = first_numbers(start);
-    for place in 0..FIRST_NUMBERS {
+    let numbers = content_numbers(start);
+    for place in 0..CONTENT_NUMBERS {
         push_part(
             text,
             observed.contains(part_at(place)),
@@ -85,10 +88,10 @@ fn push_parts(text: &mut ArrayString<1024>, observed: &Parts, start: &Start)
 }
 
 /// Adds the words of what is seen.
-fn push_seen(text: &mut ArrayString<1024>, observed: &Parts, seen: &Seen)
-    requires { array_string_len text.old + 676 ≤ 1024 }
+fn push_seen(text: &mut ArrayString<ROOM>, observed: &Parts, seen: &Seen)
+    requires { array_string_len text.old + 1488 ≤ ROOM }
     ensures text { text.new.bytes ≡ text.old.bytes ++ spaced (seen_words (marks_of observed.now) (seen_of seen.now)) }
-    ensures len { array_string_len text.new ≤ array_string_len text.old + 676 }
+    ensures len { array_string_len text.new ≤ array_string_len text.old + 1488 }
 {
     match seen {
         Seen::Late => push_word(text, "late"),
@@ -100,7 +103,7 @@ fn push_seen(text: &mut ArrayString<1024>, observed: &Parts, seen: &Seen)
 }
 
 /// The line of what is seen after the routine's name, with its line end: a blank before each word.
-pub fn seen_text(problem: &Problem, seen: &Seen) -> ArrayString<1024>
+pub fn seen_text(problem: &Problem, seen: &Seen) -> ArrayString<ROOM>
     ensures { result.bytes ≡ seen_text (marks_of problem.now.observed) (seen_of seen.now) }
 {
     let mut text = ArrayString::new();

@@ -3,7 +3,7 @@ use Rattle.std.proofs.Common.{◌≡◌, ℕ, zero, suc, ◌<◌, Bool, true, Li
 use Rattle.std.specs.Prelude.{slice_set, ◌==◌, Option, Some, None, option_map, if◌then◌else◌}
 use Rattle.std.proofs.Math.Seq.{set-append_seam}
 use Rattle.std.proofs.lemmas.List.{set-append_left, map-set, length-map}
-use Rattle.hp_model.specs.Rows.{bit_number}
+use Rattle.hp_model.specs.WordOperations.{bit_number}
 use Rattle.jd_start.specs.declared.parts.Part.{Part}
 use Rattle.jd_start.specs.declared.parts.Parts.{Parts}
 use Rattle.jd_start.specs.declared.parts.Fixed.{Fixed}

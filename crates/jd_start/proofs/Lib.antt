@@ -1,3 +1,4 @@
+pub mod Contents
 pub mod FlagLists
 pub mod NibbleTexts
 pub mod PartByPart

@@ -1,3 +1,4 @@
+pub mod Assumptions
 pub mod Nibbles
 pub mod Parts
 pub mod Starts

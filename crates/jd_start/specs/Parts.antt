@@ -1,6 +1,6 @@
 -- The parts of a start by their numbers.
 use Rattle.std.specs.Prelude.{ℕ, Bool, if◌then◌else◌, List, [], ◌∷◌, ◌++◌, map, Option, Some, None, option_map}
-use Rattle.hp_model.specs.Rows.{bit_number}
+use Rattle.hp_model.specs.WordOperations.{bit_number}
 use Rattle.jd_start.specs.declared.parts.Part.{Part}
 use Rattle.jd_start.specs.declared.parts.Part.TheVariants.{X, Y, Z, T, L, I, F0, F1, F2, F3, C, G, M}
 use Rattle.jd_start.specs.declared.parts.Parts.{Parts}

@@ -1,12 +1,13 @@
 //! Bits: as numbers, and lists of them.
 ghost use Rattle.std.specs.Prelude.{◌≡◌, ◌<◌, ◌≤◌, [], ◌∷◌, ◌++◌, length};
-ghost use Rattle.hp_model.specs.Rows.{bit_number};
+ghost use Rattle.hp_model.specs.WordOperations.{bit_number};
 
 use arrayvec::ArrayVec;
 use std::marker::Model;
 
-/// The bits that can be free in a start.
-pub const MOST_BITS: usize = 2014;
+/// The bits that can be free in a start: five words of 64, the index register, six flags and the
+/// nibbles of the larger memory.
+pub const MOST_BITS: usize = 5262;
 
 /// A bit as a number.
 pub fn bit_number(bit: bool) -> u64

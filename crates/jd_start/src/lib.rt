@@ -2,6 +2,8 @@
 //! takes memory.
 #![tactic(auto)]
 
+mod assumption_words;
+mod assumptions;
 mod bits;
 mod nibble_writer;
 mod nibbles;
@@ -11,11 +13,15 @@ mod start;
 mod start_numbers;
 mod word_writer;
 
+pub use assumption_words::{
+    against_named, num_part_name, num_part_named, relation_name, relation_named,
+};
+pub use assumptions::{Assumed, MOST_ASSUMED, meets};
 pub use bits::{Bits, MOST_BITS, bit_number};
 pub use nibble_writer::push_nibbles;
 pub use nibbles::{MOST_BLOCKS, MOST_NIBBLES, Nibbles, register_nibbles};
 pub use part_table::{part_at, part_name};
 pub use parts::{Fixed, PART_COUNT, Part, Parts};
 pub use start::Start;
-pub use start_numbers::{FIRST_NUMBERS, first_numbers, start_with};
+pub use start_numbers::{CONTENT_NUMBERS, content_numbers, content_with, start_with};
 pub use word_writer::{push_decimal_line, push_number, push_number_line, push_word};

@@ -1,24 +1,26 @@
 //! Register nibbles: how many there are, and lists of them.
-ghost use Rattle.std.specs.Prelude.{◌≡◌, ◌<◌, ◌≤◌, [], ◌∷◌, ◌++◌, length};
-ghost use Rattle.hp_model.specs.State.{register_nibbles};
+ghost use Rattle.std.specs.Prelude.{◌≡◌, ◌*◌, ◌<◌, ◌≤◌, [], ◌∷◌, ◌++◌, length};
+ghost use Rattle.hp_model.specs.State.{memory_bytes, register_nibbles};
 ghost use Rattle.jd_start.specs.Nibbles.{AreNibbles};
 
 use arrayvec::ArrayVec;
+use hp_model::Extent;
 use std::marker::Model;
 
-/// The nibbles of a memory without a program.
-pub const MOST_NIBBLES: usize = 406;
+/// The nibbles of the larger memory without a program.
+pub const MOST_NIBBLES: usize = 1218;
 
-/// The blocks of seven bytes that a program may take.
+/// The blocks of seven bytes that a routine may take.
 pub const MOST_BLOCKS: u8 = 29;
 
-/// How many nibbles belong to registers where a program has so many blocks of seven bytes.
-pub fn register_nibbles(blocks: u8) -> u16
-    requires { blocks ≤ MOST_BLOCKS }
-    ensures value { result ≡ register_nibbles blocks }
+/// How many nibbles of a memory belong to registers where a program has so many blocks of seven
+/// bytes.
+pub fn register_nibbles(memory: Extent, blocks: u8) -> u16
+    requires { 7 * blocks ≤ memory_bytes memory }
+    ensures value { result ≡ register_nibbles (memory_bytes memory) blocks }
     ensures bound { result ≤ MOST_NIBBLES }
 {
-    (MOST_NIBBLES - 14 * usize::from(blocks)) as u16
+    2 * memory.bytes() - 14 * u16::from(blocks)
 }
 
 /// Numbers below 16, in the order of a machine's register nibbles and no more than these. Contracts

@@ -1,6 +1,7 @@
 // A start as a list of numbers.
-ghost use Rattle.std.specs.Prelude.{◌≡◌, ◌++◌, length};
-ghost use Rattle.jd_model.specs.Problems.{first_numbers, start_with};
+ghost use Rattle.std.specs.Prelude.{◌≡◌, ℕ, List, ◌++◌, length};
+ghost use Rattle.hp_words.specs.Contents.{data_of};
+ghost use Rattle.jd_model.specs.Problems.{content_numbers, start_with};
 ghost use Rattle.jd_start.specs.Starts.{start_data};
 
 use crate::bits::bit_number;
@@ -8,12 +9,12 @@ use crate::nibbles::Nibbles;
 use crate::start::Start;
 use hp_words::Content;
 
-/// How many numbers a start has but for the nibbles.
-pub const FIRST_NUMBERS: usize = 12;
+/// How many numbers a start's content has.
+pub const CONTENT_NUMBERS: usize = 12;
 
-/// The numbers of a start but for the nibbles: the stack, LAST X, the index register and the flags.
-pub fn first_numbers(start: &Start) -> [u64; FIRST_NUMBERS]
-    ensures value { result ≡ first_numbers (start_data start.now) }
+/// The numbers of a start's content: the stack, LAST X, the index register and the flags.
+pub fn content_numbers(start: &Start) -> [u64; CONTENT_NUMBERS]
+    ensures value { result ≡ content_numbers (start_data start.now) }
     ensures flags { length start.now.content.flags ≡ 6 }
 {
     let content = &start.content;
@@ -34,28 +35,36 @@ pub fn first_numbers(start: &Start) -> [u64; FIRST_NUMBERS]
     ]
 }
 
-/// The start of these numbers and nibbles.
-pub fn start_with(first: &[u64], nibbles: Nibbles) -> Start
-    requires { length first.now ≡ FIRST_NUMBERS }
-    ensures { start_data result ≡ start_with (first.now ++ nibbles) }
+/// The content of these numbers.
+pub fn content_with(numbers: &[u64]) -> Content
+    requires { length numbers.now ≡ CONTENT_NUMBERS }
+    ensures { (nibbles : List ℕ) → data_of result nibbles ≡ start_with (numbers.now ++ nibbles) }
+{
+    Content {
+        x: numbers[0],
+        y: numbers[1],
+        z: numbers[2],
+        t: numbers[3],
+        l: numbers[4],
+        i: numbers[5],
+        flags: [
+            numbers[6] == 1,
+            numbers[7] == 1,
+            numbers[8] == 1,
+            numbers[9] == 1,
+            numbers[10] == 1,
+            numbers[11] == 1,
+        ],
+    }
+}
+
+/// The start whose content has these numbers, with these nibbles.
+pub fn start_with(content: &[u64], nibbles: Nibbles) -> Start
+    requires { length content.now ≡ CONTENT_NUMBERS }
+    ensures { start_data result ≡ start_with (content.now ++ nibbles) }
 {
     Start {
-        content: Content {
-            x: first[0],
-            y: first[1],
-            z: first[2],
-            t: first[3],
-            l: first[4],
-            i: first[5],
-            flags: [
-                first[6] == 1,
-                first[7] == 1,
-                first[8] == 1,
-                first[9] == 1,
-                first[10] == 1,
-                first[11] == 1,
-            ],
-        },
+        content: content_with(content),
         nibbles,
     }
 }

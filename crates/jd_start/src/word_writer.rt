@@ -1,8 +1,8 @@
 // Words and lines, added to a text.
 ghost use Rattle.std.specs.Prelude.{◌≡◌, ◌+◌, ◌≤◌, ◌∷◌, [], ◌++◌, length, decimal};
 ghost use Rattle.arrayvec.specs.ArrayString.{array_string_len};
-ghost use Rattle.jd_model.specs.Texts.{line};
-ghost use Rattle.jd_model.specs.Numbers.{hexadecimal};
+ghost use Rattle.jd_text.specs.Words.{line};
+ghost use Rattle.jd_text.specs.Digits.{hexadecimal};
 
 use arrayvec::ArrayString;
 use jd_numbers::{push_decimal, push_hexadecimal};

@@ -1,13 +1,21 @@
-// The words of a line.
+//! The words of a line by their places, and single bytes and words compared. Each word is a slice
+//! of its line.
 ghost use Rattle.std.specs.Prelude.{◌≡◌, ◌<◌, ◌≤◌, ◌∷◌, [], false, length, drop, slice_index, slice_range, MatchOption};
-ghost use Rattle.jd_logic.specs.Words.{is_separator, words_of};
+ghost use Rattle.jd_text.specs.Words.{is_separator, is_text, words_of};
 ghost use Rattle.jd_text.specs.Places.{words_at, IsWordTo};
 
 /// Whether a byte stands between words.
-fn is_separator(b: u8) -> bool
+pub fn is_separator(b: u8) -> bool
     ensures { result ≡ is_separator b }
 {
     b == b' ' || b == b'\t' || b == b'\r'
+}
+
+/// Whether a word is this text.
+pub fn is_text(text: &[u8], word: &[u8]) -> bool
+    ensures { result ≡ is_text text.now word.now }
+{
+    text == word
 }
 
 /// The first place from one on that no separator holds.

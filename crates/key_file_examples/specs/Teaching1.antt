@@ -30,3 +30,9 @@ pub record Teaching1 : Type 0 where
   pub case_9 : Prints
       (codes "g R/S g GTO A ENTER ENTER 8 f F f / ENTER ENTER 4 f F f / ENTER ENTER 2 f F f / ENTER ENTER 1 f F f / 1 f * g GSB g R/S\n7 GSB A\n3 GSB A\n")
       (codes "0 h\n1 h\n0 h C\n")
+  pub case_10 : Prints
+      (codes "M609 f 0\ng R/S +\nf 0\n")
+      (codes "P-0 r-304\n001 + PRGM\nP-6 r-301\n")
+  pub case_11 : Prints
+      (codes "M609 4 C 1 STO SST 4 f STO 7 STO R/S\ng BSP\nRCL R/S\n")
+      (codes "7 h\n0 h\n7 h\n")

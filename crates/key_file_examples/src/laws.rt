@@ -18,6 +18,20 @@ ghost use Rattle.key_file_examples.specs.Programs1.{Programs1};
 ghost use Rattle.key_file_examples.specs.Programs2.{Programs2};
 ghost use Rattle.key_file_examples.specs.Programs3.{Programs3};
 ghost use Rattle.key_file_examples.specs.Programs4.{Programs4};
+ghost use Rattle.key_file_examples.specs.Corners1.{Corners1};
+ghost use Rattle.key_file_examples.specs.Corners2.{Corners2};
+ghost use Rattle.key_file_examples.specs.Corners3.{Corners3};
+ghost use Rattle.key_file_examples.specs.Corners4.{Corners4};
+ghost use Rattle.key_file_examples.specs.Corners5.{Corners5};
+ghost use Rattle.key_file_examples.specs.Corners6.{Corners6};
+ghost use Rattle.key_file_examples.specs.Corners7.{Corners7};
+ghost use Rattle.key_file_examples.specs.Corners8.{Corners8};
+ghost use Rattle.key_file_examples.specs.Corners9.{Corners9};
+ghost use Rattle.key_file_examples.specs.Corners10.{Corners10};
+ghost use Rattle.key_file_examples.specs.Large1.{Large1};
+ghost use Rattle.key_file_examples.specs.Large2.{Large2};
+ghost use Rattle.key_file_examples.specs.Large3.{Large3};
+ghost use Rattle.key_file_examples.specs.Large4.{Large4};
 ghost use Rattle.key_file_examples.specs.Teaching1.{Teaching1};
 
 /// The definitions print what these key files are said to print.
@@ -113,6 +127,76 @@ pub fn programs3()
 /// The definitions print what these key files are said to print.
 pub fn programs4()
     ensures { Programs4 }
+{}
+
+/// The definitions print what these key files are said to print.
+pub fn corners1()
+    ensures { Corners1 }
+{}
+
+/// The definitions print what these key files are said to print.
+pub fn corners2()
+    ensures { Corners2 }
+{}
+
+/// The definitions print what these key files are said to print.
+pub fn corners3()
+    ensures { Corners3 }
+{}
+
+/// The definitions print what these key files are said to print.
+pub fn corners4()
+    ensures { Corners4 }
+{}
+
+/// The definitions print what these key files are said to print.
+pub fn corners5()
+    ensures { Corners5 }
+{}
+
+/// The definitions print what these key files are said to print.
+pub fn corners6()
+    ensures { Corners6 }
+{}
+
+/// The definitions print what these key files are said to print.
+pub fn corners7()
+    ensures { Corners7 }
+{}
+
+/// The definitions print what these key files are said to print.
+pub fn corners8()
+    ensures { Corners8 }
+{}
+
+/// The definitions print what these key files are said to print.
+pub fn corners9()
+    ensures { Corners9 }
+{}
+
+/// The definitions print what these key files are said to print.
+pub fn corners10()
+    ensures { Corners10 }
+{}
+
+/// The definitions print what these key files are said to print.
+pub fn large1()
+    ensures { Large1 }
+{}
+
+/// The definitions print what these key files are said to print.
+pub fn large2()
+    ensures { Large2 }
+{}
+
+/// The definitions print what these key files are said to print.
+pub fn large3()
+    ensures { Large3 }
+{}
+
+/// The definitions print what these key files are said to print.
+pub fn large4()
+    ensures { Large4 }
 {}
 
 /// The definitions print what these key files are said to print.

@@ -1,4 +1,4 @@
-//! Key files that a program of another hand ran, and what it printed: the definitions print the same.
+//! Key files that an independent program ran, and what it printed: the definitions print the same.
 #![tactic(auto)]
 
 pub mod laws;

@@ -1,7 +1,7 @@
 use Rattle.std.proofs.Common.{◌≡◌, ◌∙◌, arith, int_rem}
 use Rattle.std.specs.Int.{w128}
 use Rattle.std.proofs.lemmas.Int.{ints, rem_is, quot-rem}
-use Rattle.hp_model.specs.Rows.{rest_of}
+use Rattle.hp_model.specs.WordOperations.{rest_of}
 use Rattle.hp_arith.proofs.quotients.rest.Goals as goal
 
 pub returns : goal.returns

@@ -1,5 +1,5 @@
 use Rattle.std.proofs.Common.{ℕ, ◌*◌, nat_lt, Some, false, ap, ◌∙◌}
-use Rattle.hp_model.specs.Rows.{root}
+use Rattle.hp_model.specs.WordOperations.{root}
 use Rattle.hp_model.specs.declared.Answer.{Answer}
 use Rattle.hp_arith.proofs.roots.root.Goals as goal
 

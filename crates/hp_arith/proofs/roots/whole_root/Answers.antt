@@ -1,4 +1,4 @@
-use Rattle.hp_model.specs.Rows.{root}
+use Rattle.hp_model.specs.WordOperations.{root}
 use Rattle.hp_arith.proofs.Squares.{one_root}
 use Rattle.hp_model.proofs.Roots.{root-is}
 use Rattle.hp_arith.proofs.roots.whole_root.Goals as goal

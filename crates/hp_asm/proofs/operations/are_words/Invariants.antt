@@ -1,7 +1,6 @@
 use Rattle.std.proofs.Common.{◌≡◌, ◌-◌, ◌≤◌, length}
-use Rattle.jd_logic.specs.Words.{words_of}
+use Rattle.jd_text.specs.Words.{words_of, are_texts}
 use Rattle.jd_text.specs.Places.{words_at}
-use Rattle.jd_model.specs.Texts.{are_texts}
 use Rattle.hp_asm.proofs.operations.are_words.Given as goal
 
 -- the words that are left are the same where all are

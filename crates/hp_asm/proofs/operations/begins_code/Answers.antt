@@ -1,5 +1,5 @@
 use Rattle.std.proofs.Common.{sym, ap, ◌∙◌}
-use Rattle.jd_logic.specs.Words.{words_of}
+use Rattle.jd_text.specs.Words.{words_of}
 use Rattle.jd_model.specs.Assembly.{is_first}
 use Rattle.hp_asm.proofs.Searches.{first-word}
 use Rattle.hp_asm.proofs.operations.begins_code.Goals as goal

@@ -1,5 +1,5 @@
 use Rattle.std.proofs.Common.{sym, ◌∙◌}
-use Rattle.jd_logic.specs.Words.{words_of}
+use Rattle.jd_text.specs.Words.{words_of}
 use Rattle.jd_model.specs.Assembly.{is_code_text, code_of_words}
 use Rattle.hp_asm.proofs.Searches.{found-here, found-later, found-none}
 use Rattle.hp_asm.proofs.operations.code_of.Goals as goal

@@ -1,6 +1,6 @@
 use Rattle.std.proofs.Common.{◌≡◌, ◌-◌}
 use Rattle.hp_model.specs.Lists.{first_from}
-use Rattle.jd_logic.specs.Words.{words_of}
+use Rattle.jd_text.specs.Words.{words_of}
 use Rattle.jd_model.specs.Assembly.{is_code_text, code_of_words}
 use Rattle.hp_asm.proofs.operations.code_of.Given as goal
 

@@ -2,7 +2,7 @@ use Rattle.std.proofs.Common.{◌≡◌, ◌-◌, ◌*◌, ◌%◌, ◌^◌, ◌
 use Rattle.std.proofs.Math.Nat.{mod-eq_of_lt, pow-le-pow_right}
 use Rattle.std.proofs.lemmas.Nat.{leading_le}
 use lib.Count.{count_leading_zeros}
-use Rattle.hp_model.specs.Rows.{left_shifts}
+use Rattle.hp_model.specs.WordOperations.{left_shifts}
 use Rattle.hp_bits.proofs.Lengths.{shifts_are, below_power}
 use Rattle.hp_bits.proofs.logic.left_justify.Goals as goal
 

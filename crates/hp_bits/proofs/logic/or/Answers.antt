@@ -3,4 +3,4 @@ use Rattle.std.proofs.lemmas.Nat.{or_lt}
 use Rattle.hp_bits.proofs.logic.or.Goals as goal
 
 pub returns-clause-bound : goal.returns-clause-bound
-returns-clause-bound c = or_lt c.args.x.size.bits c.args.y.pattern c.args.x.pattern (subst (λ (w : ℕ). c.args.y.pattern < 2 ^ w) c.requires.same_size c.args.y.in_range) c.args.x.in_range
+returns-clause-bound c = or_lt c.args.x.size.bits c.args.y.pattern c.args.x.pattern (subst (λ (w : ℕ). c.args.y.pattern < 2 ^ w) c.requires.alike.size c.args.y.in_range) c.args.x.in_range

@@ -13,4 +13,4 @@ pub returns-clause-bound : goal.returns-clause-bound
 returns-clause-bound c =
     let told = c.in_ok-n.ensures in
     let one : 1 * 2 ^ c.in_ok-n.n % 2 ^ 64 ≡ 2 ^ c.in_ok-n.n = one_shl c.in_ok-n.n 64 (omega (arith, told.bound, c.args.x.size.at_most_64)) in
-    rw one (or_lt c.args.x.size.bits c.args.y.pattern (2 ^ c.in_ok-n.n) (subst (λ (w : ℕ). c.args.y.pattern < 2 ^ w) c.requires.same_size c.args.y.in_range) (pow_below _ _ told.bound))
+    rw one (or_lt c.args.x.size.bits c.args.y.pattern (2 ^ c.in_ok-n.n) (subst (λ (w : ℕ). c.args.y.pattern < 2 ^ w) c.requires.alike.size c.args.y.in_range) (pow_below _ _ told.bound))

@@ -31,4 +31,11 @@ returns c = record {
   ones = refl;
   whole_mask = refl;
   no_mask = refl;
+  ten_answers = refl;
+  twelve_answers = refl;
+  too_few_answers = refl;
+  too_many_answers = refl;
+  yes_is_an_error = refl;
+  nothing_after_an_error = refl;
+  nothing_asked = refl;
 }

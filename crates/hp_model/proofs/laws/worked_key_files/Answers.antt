@@ -37,4 +37,15 @@ returns c = record {
   bad_word_at_the_limit = refl;
   full_program = refl;
   endless_run = never_ends;
+  large_memory = refl;
+  large_nibbles = refl;
+  large_index = refl;
+  standard_index = refl;
+  standard_memory = refl;
+  machine_on_second_line = refl;
+  machine_as_second_word = refl;
+  machine_named_twice = refl;
+  machine_after_an_empty_line = refl;
+  machine_alone = refl;
+  full_large_program = refl;
 }

@@ -10,9 +10,15 @@ returns c = record {
   upper_nibble = refl;
   lower_byte = refl;
   upper_byte = refl;
+  first_byte = (refl, refl);
+  second_byte = (refl, refl);
   code_in_its_byte = (refl, refl);
   rest_of_its_block = (refl, refl);
   registers_left = refl;
   given_back = refl;
   registers_back = refl;
+  large_registers = (refl, refl);
+  large_code = (refl, refl);
+  large_registers_left = refl;
+  large_last_register = (refl, refl);
 }

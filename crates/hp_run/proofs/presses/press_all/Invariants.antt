@@ -1,5 +1,5 @@
 use Rattle.std.proofs.Common.{◌≡◌, drop}
-use Rattle.hp_model.specs.Wrote.{pressed_all}
+use Rattle.hp_model.specs.WrittenNibbles.{pressed_all}
 use Rattle.hp_run.specs.Seen.{calculator_of}
 use Rattle.hp_run.proofs.presses.press_all.Given as goal
 

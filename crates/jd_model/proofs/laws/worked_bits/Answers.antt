@@ -10,5 +10,8 @@ returns c = record {
   start = refl;
   back = refl;
   allowed = refl;
+  assumed_allowed = refl;
+  assumed_not_allowed = refl;
+  in_range_all_the_same = refl;
   not_allowed = refl;
 }

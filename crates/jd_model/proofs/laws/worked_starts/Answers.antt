@@ -22,5 +22,7 @@ returns c = record {
   no_end = refl;
   no_start = refl;
   fixed_flag = refl;
+  assumptions_met = refl;
+  assumptions_not_met = refl;
   other_flag = refl;
 }

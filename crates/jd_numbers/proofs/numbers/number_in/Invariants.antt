@@ -1,5 +1,5 @@
 use Rattle.std.proofs.Common.{◌≡◌, ◌^◌, ◌<◌, drop}
-use Rattle.jd_model.specs.Numbers.{digits_value, are_digits}
+use Rattle.jd_text.specs.Digits.{digits_value, are_digits}
 use Rattle.jd_numbers.proofs.numbers.number_in.Given as goal
 
 -- the digits that are left give what all give

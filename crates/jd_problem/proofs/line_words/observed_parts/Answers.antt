@@ -1,6 +1,6 @@
 use Rattle.std.proofs.Common.{◌≡◌, None, refl, sym, subst}
 use Rattle.std.specs.Prelude.{MatchOption}
-use Rattle.jd_logic.specs.Words.{words_of}
+use Rattle.jd_text.specs.Words.{words_of}
 use Rattle.jd_text.specs.Places.{words_at}
 use Rattle.jd_model.specs.ProblemLines.{parts_named}
 use Rattle.jd_start.specs.Parts.{marks_of}

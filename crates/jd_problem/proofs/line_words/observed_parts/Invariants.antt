@@ -1,5 +1,5 @@
 use Rattle.std.proofs.Common.{◌≡◌, ◌-◌, ◌≤◌, length, false, replicate}
-use Rattle.jd_logic.specs.Words.{words_of}
+use Rattle.jd_text.specs.Words.{words_of}
 use Rattle.jd_text.specs.Places.{words_at}
 use Rattle.jd_start.specs.Parts.{marks_of}
 use Rattle.jd_problem.proofs.Observed.{observed_in}

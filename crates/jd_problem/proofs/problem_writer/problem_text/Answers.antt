@@ -1,5 +1,6 @@
+use Rattle.std.proofs.Common.{map}
 use Rattle.jd_model.specs.ProblemLines.{part_names}
-use Rattle.jd_model.specs.ProblemWriter.{header_lines, fix_lines, routine_lines}
+use Rattle.jd_model.specs.ProblemWriter.{version, header_lines, fix_lines, assume_line, routine_lines}
 use Rattle.jd_start.specs.Parts.{values_of}
 use Rattle.jd_problem.specs.Problems.{problem_of}
 use Rattle.jd_problem.proofs.ProblemRanges.{is-problem}
@@ -18,8 +19,10 @@ returns-clause-text c =
       c.push_str-2.ensures.bytes,
       c.push_routine.ensures.text,
       c.push_str.ensures.bytes,
+      c.push_assumed.ensures.text,
+      c.as_slice.ensures.same,
       c.push_fixed.ensures.text,
       c.push_headers.ensures.text,
       c.new-text.ensures,
     )
-    (whole-problem (header_lines (problem_of p)) (fix_lines part_names (values_of p.fixed)) (routine_lines p.first) (routine_lines p.second))
+    (whole-problem (header_lines (version (problem_of p)) (problem_of p)) (fix_lines part_names (values_of p.fixed)) (map assume_line p.assumed) (routine_lines p.first) (routine_lines p.second))

@@ -1,5 +1,5 @@
 use Rattle.std.proofs.Common.{arith, ap, ◌∙◌, ◌+◌, ◌++◌, [], get_or, drop, None}
-use Rattle.jd_model.specs.Texts.{written}
+use Rattle.jd_text.specs.Words.{written}
 use Rattle.jd_model.specs.ProblemLines.{part_names}
 use Rattle.jd_model.specs.ProblemWriter.{fix_line, fix_lines}
 use Rattle.jd_start.specs.Parts.{values_of}

@@ -1,6 +1,6 @@
 use Rattle.std.proofs.Common.{◌≡◌, ◌+◌, ◌*◌, ◌≤◌, ◌++◌, drop}
 use Rattle.arrayvec.specs.ArrayString.{array_string_len}
-use Rattle.jd_model.specs.Texts.{written}
+use Rattle.jd_text.specs.Words.{written}
 use Rattle.jd_model.specs.ProblemLines.{part_names}
 use Rattle.jd_model.specs.ProblemWriter.{fix_lines}
 use Rattle.jd_start.specs.Parts.{values_of}

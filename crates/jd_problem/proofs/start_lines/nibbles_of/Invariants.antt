@@ -1,5 +1,5 @@
 use Rattle.std.proofs.Common.{◌≡◌, length, take, map}
-use Rattle.jd_model.specs.Texts.{digit_value}
+use Rattle.jd_text.specs.Digits.{digit_value}
 use Rattle.jd_problem.proofs.start_lines.nibbles_of.Given as goal
 
 abbrev pub invariant-loop-b : goal.invariant-loop-b

@@ -1,5 +1,6 @@
 use Rattle.std.proofs.Common.{◌≡◌, ◌+◌, ◌-◌, ◌≤◌, length, drop}
-use Rattle.jd_model.specs.Texts.{word_lines, read_lines}
+use Rattle.jd_text.specs.Words.{word_lines}
+use Rattle.jd_text.specs.Readings.{read_lines}
 use Rattle.jd_readers.proofs.lines.read_lines.Given as goal
 
 -- the lines that are left give what all give

@@ -16,4 +16,6 @@ returns c = record {
   case_7 = refl;
   case_8 = refl;
   case_9 = refl;
+  case_10 = refl;
+  case_11 = refl;
 }

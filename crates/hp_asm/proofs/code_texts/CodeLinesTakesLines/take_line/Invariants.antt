@@ -1,5 +1,5 @@
 use Rattle.std.proofs.Common.{◌≡◌, ◌-◌, ◌≤◌, length}
-use Rattle.jd_logic.specs.Words.{words_of}
+use Rattle.jd_text.specs.Words.{words_of}
 use Rattle.jd_text.specs.Places.{words_at}
 use Rattle.jd_model.specs.Assembly.{with_codes}
 use Rattle.hp_asm.proofs.code_texts.CodeLinesTakesLines.take_line.Given as goal

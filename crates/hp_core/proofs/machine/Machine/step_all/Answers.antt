@@ -1,6 +1,6 @@
 use Rattle.std.proofs.Common.{◌≡◌, map, ap, ◌∙◌, slice_index}
 use Rattle.std.proofs.lemmas.List.{drop_all}
-use Rattle.hp_model.specs.Wrote.{operated_all}
+use Rattle.hp_model.specs.WrittenNibbles.{operated_all}
 use Rattle.hp_model.proofs.Registers.{same_register}
 use Rattle.hp_model.proofs.KeptByKeys.{operated_all-nibble}
 use Rattle.hp_ops.specs.Meaning.{operation}

@@ -1,5 +1,5 @@
 use Rattle.std.proofs.Common.{◌≡◌, drop, map}
-use Rattle.hp_model.specs.Wrote.{operated_all}
+use Rattle.hp_model.specs.WrittenNibbles.{operated_all}
 use Rattle.hp_ops.specs.Meaning.{operation}
 use Rattle.hp_core.specs.FromLines.{AreFromLines}
 use Rattle.hp_core.specs.Machines.{machine_of}

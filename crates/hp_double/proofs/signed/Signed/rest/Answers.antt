@@ -1,6 +1,6 @@
 use Rattle.std.proofs.Common.{◌≡◌, ◌%◌, ◌∙◌, arith, int_rem, rules}
 use Rattle.std.proofs.lemmas.Int.{ints, quot-rem}
-use Rattle.hp_model.specs.Rows.{rest_of}
+use Rattle.hp_model.specs.WordOperations.{rest_of}
 use Rattle.hp_double.specs.Number.{number}
 use Rattle.hp_double.proofs.signed.Signed.rest.Goals as goal
 

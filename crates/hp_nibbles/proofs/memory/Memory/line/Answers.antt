@@ -1,24 +1,23 @@
-use Rattle.std.proofs.Common.{◌≡◌, ℕ, ◌-◌, ◌<◌, ◌≤◌, arith, sym, ap, get_or, length, ◌∙◌}
+use Rattle.std.proofs.Common.{◌≡◌, ◌-◌, ◌<◌, arith, sym, ap, get_or, ◌∙◌}
+use Rattle.hp_model.specs.State.{memory_bytes}
 use Rattle.hp_model.specs.Memory.{Memory}
-use Rattle.hp_model.proofs.Tabulated.{length-tabulated, get-tabulated}
+use Rattle.hp_nibbles.proofs.ProgramLines.{get-lines_in}
+use Rattle.hp_nibbles.proofs.Seen.{seen}
 use Rattle.hp_nibbles.proofs.memory.Memory.line.Goals as goal
 
 pub overflow_sub-result : goal.overflow_sub-result
-overflow_sub-result c =
-    let program = ap (λ (m : Memory). length m.program) c.self.view_is in
-    omega (arith, program, length-tabulated (λ k. get_or c.self.inside.bytes (202 - k) 0) c.self.inside.lines)
+overflow_sub-result c = omega (arith, c.self.invariant.lines_bound, c.end_of.ensures.value, seen _ c.self.inside.bytes c.self.inside.lines c.self.inside.blocks c.args.self.now c.self.view_is)
 
 pub returns-clause-value : goal.returns-clause-value
 returns-clause-value c =
-    let lengths = ap (λ (m : Memory). length m.program) c.self.view_is in
+    let s = seen _ c.self.inside.bytes c.self.inside.lines c.self.inside.blocks c.args.self.now c.self.view_is in
     let program = ap (λ (m : Memory). get_or m.program (c.args.i - 1) 0) c.self.view_is in
-    let f = λ (k : ℕ). get_or c.self.inside.bytes (202 - k) 0 in
-    let inside : c.args.i - 1 < c.self.inside.lines = omega (arith, lengths, length-tabulated f c.self.inside.lines) in
-    let place : 203 - c.args.i ≡ 202 - (c.args.i - 1) = omega arith in
-    rw place (sym (get-tabulated f c.self.inside.lines (c.args.i - 1) inside) ∙ program)
+    let inside : c.args.i - 1 < c.self.inside.lines = omega (arith, s) in
+    let place : c.end_of.result - c.args.i ≡ memory_bytes c.self.inside.extent - 1 - (c.args.i - 1) = omega (arith, c.end_of.ensures.value) in
+    rw place (sym (get-lines_in _ c.self.inside.bytes c.self.inside.lines (c.args.i - 1) inside) ∙ program)
 
 pub returns-clause-code : goal.returns-clause-code
 returns-clause-code c =
-    let lengths = ap (λ (m : Memory). length m.program) c.self.view_is in
-    let inside : c.args.i ≤ c.self.inside.lines = omega (arith, lengths, length-tabulated (λ k. get_or c.self.inside.bytes (202 - k) 0) c.self.inside.lines) in
-    c.self.invariant.lines_are_codes (203 - c.args.i) (omega arith) (omega arith)
+    let s = seen _ c.self.inside.bytes c.self.inside.lines c.self.inside.blocks c.args.self.now c.self.view_is in
+    let last : c.end_of.result ≡ memory_bytes c.self.inside.extent = c.end_of.ensures.value in
+    c.self.invariant.lines_are_codes (c.end_of.result - c.args.i) (omega (arith, s, last)) (omega (arith, s, last, c.self.invariant.lines_bound))

@@ -7,5 +7,5 @@ use Rattle.jd_problem.proofs.problem.Problem.free_bits.Goals as goal
 pub returns-clause-bound : goal.returns-clause-bound
 returns-clause-bound c =
     let p = problem_of c.args.self.now in
-    let first = c.free_widths.ensures.value ∙ ap free_widths c.first_fields.ensures in
+    let first = c.free_widths.ensures.value ∙ ap free_widths c.content_fields.ensures in
     omega (arith, first, free_bits-sum p, free_bits-most p c.args.self.now.size.at_most_64 (omega arith))

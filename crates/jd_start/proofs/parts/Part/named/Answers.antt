@@ -1,5 +1,5 @@
 use Rattle.std.proofs.Common.{sym, ap, ◌∙◌, []}
-use Rattle.jd_logic.specs.Words.{is_text}
+use Rattle.jd_text.specs.Words.{is_text}
 use Rattle.jd_model.specs.ProblemLines.{part_names}
 use Rattle.jd_start.proofs.Searches.{found-later}
 use Rattle.jd_start.proofs.parts.Part.named.Goals as goal

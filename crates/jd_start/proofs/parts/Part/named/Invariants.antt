@@ -1,4 +1,4 @@
-use Rattle.jd_logic.specs.Words.{is_text}
+use Rattle.jd_text.specs.Words.{is_text}
 use Rattle.jd_model.specs.ProblemLines.{part_names}
 use Rattle.jd_start.proofs.Searches.{FailBefore}
 use Rattle.jd_start.proofs.parts.Part.named.Given as goal

@@ -1,0 +1,99 @@
+-- What the commands that read their whole input answer, keep and write.
+use Rattle.std.specs.Prelude.{◌≡◌, ◌≢◌, ℕ, ◌+◌, ◌<◌, ◌≤◌, List, ◌++◌, length, Option, ⊤, ◌⊎◌}
+use Rattle.std.specs.Io.KnownBytes.{Appends}
+use Rattle.hp_io.specs.Limited.{IsRest, Takes}
+use Rattle.jd_logic.specs.LratCommand as lrat_command
+use Rattle.hp16c_commands.specs.declared.outcomes.Kept.TheVariants.{Nothing}
+use Rattle.hp16c_commands.specs.declared.outcomes.Outcome.{Outcome}
+use Rattle.hp16c_commands.specs.declared.outcomes.Status.{Status}
+use Rattle.hp16c_commands.specs.declared.outcomes.Status.TheVariants.{Different, Usage, ReadFault, WriteFault, NoMemory, CertRefused}
+use Rattle.hp16c_commands.specs.declared.whole_inputs.WholeInput.{WholeInput}
+use Rattle.hp16c_commands.specs.declared.whole_inputs.WholeInput.TheVariants as inputs
+use Rattle.hp16c_commands.specs.Answers.{Answer, too_long}
+use Rattle.hp16c_commands.specs.Lrat.{lrat_answer}
+use Rattle.hp16c_commands.specs.Assemble.{asm_answer}
+use Rattle.hp16c_commands.specs.List.{list_answer}
+use Rattle.hp16c_commands.specs.Replay.{replay_answer}
+
+-- the greatest input, in bytes
+abbrev pub limit_of : WholeInput → ℕ
+limit_of inputs.Lrat = lrat_command.limit
+limit_of inputs.Assemble = 65_536
+limit_of inputs.List = 65_536
+limit_of inputs.Replay = 131_072
+
+-- an answer to bytes within the limit. That of each command here is a function of the bytes
+abbrev pub Answers : WholeInput → List ℕ → Answer → Type 0
+Answers inputs.Lrat bytes answer = answer ≡ lrat_answer bytes
+Answers inputs.Assemble bytes answer = answer ≡ asm_answer bytes
+Answers inputs.List bytes answer = answer ≡ list_answer bytes
+Answers inputs.Replay bytes answer = answer ≡ replay_answer bytes
+
+-- an answer to any bytes: the limit is looked at first
+pub data IsAnswerTo (command : WholeInput) (bytes : List ℕ) (answer : Answer) : Type 0 where
+  within : length bytes ≤ limit_of command → Answers command bytes answer → IsAnswerTo command bytes answer
+  past : limit_of command < length bytes → answer ≡ too_long → IsAnswerTo command bytes answer
+
+-- the source was read to its end, within the limit, and this answers its bytes
+pub record IsWithinLimit (command : WholeInput) (left0 left : Option (List ℕ)) (answer : Answer) : Type 0 where
+  pub taken : List ℕ
+  pub rest : IsRest left0 left taken
+  pub within : length taken ≤ limit_of command
+  pub answers : Answers command taken answer
+
+-- one byte past the limit was read
+pub record IsTooLong (command : WholeInput) (left0 left : Option (List ℕ)) (answer : Answer) : Type 0 where
+  pub took : Takes (limit_of command + 1) left0 left
+  pub answer_is : answer ≡ too_long
+
+-- an answer to what the source gave
+abbrev pub IsAnswer : WholeInput → Option (List ℕ) → Option (List ℕ) → Answer → Type 0
+IsAnswer command left0 left answer = IsWithinLimit command left0 left answer ⊎ IsTooLong command left0 left answer
+
+-- an answer, with its text written
+pub record WasGiven (command : WholeInput) (outcome : Outcome) (left0 left written0 written : Option (List ℕ)) : Type 0 where
+  pub text : List ℕ
+  pub answer : IsAnswer command left0 left (record { outcome = outcome; text = text })
+  pub put : Appends written0 written text
+
+-- an answer, of whose text only a front was written
+pub record WasCutShort (command : WholeInput) (left0 left written0 written : Option (List ℕ)) : Type 0 where
+  pub outcome : Outcome
+  pub part : List ℕ
+  pub left_out : List ℕ
+  pub answer : IsAnswer command left0 left (record { outcome = outcome; text = part ++ left_out })
+  pub put : Appends written0 written part
+
+-- an answer to bytes that the source told, with its text written
+pub record WasTold (command : WholeInput) (bytes : List ℕ) (outcome : Outcome) (written0 written : Option (List ℕ)) : Type 0 where
+  pub text : List ℕ
+  pub answer : IsAnswerTo command bytes (record { outcome = outcome; text = text })
+  pub put : Appends written0 written text
+
+-- what was written and kept, status by status. With the statuses that no answer has nothing is
+abbrev pub Did : WholeInput → Outcome → Option (List ℕ) → Option (List ℕ) → Option (List ℕ) → Option (List ℕ) → Type 0
+Did command outcome left0 left written0 written = by_status outcome.status
+  where
+    by_status : Status → Type 0
+    by_status Usage = ⊥
+    by_status ReadFault = written ≡ written0
+    by_status NoMemory = written ≡ written0
+    by_status WriteFault = WasCutShort command left0 left written0 written
+    by_status _ = WasGiven command outcome left0 left written0 written
+
+-- a fact where an answer was given: no read or write failed, and memory was there
+abbrev pub IfGiven : Status → Type 0 → Type 0
+IfGiven ReadFault P = ⊤
+IfGiven WriteFault P = ⊤
+IfGiven NoMemory P = ⊤
+IfGiven _ P = P
+
+-- what holds of each answer: its status is no fault, and something is kept only of a proof that isn't right
+pub record IsOutcomeOf (command : WholeInput) (outcome : Outcome) : Type 0 where
+  pub no_usage : outcome.status ≢ Usage
+  pub no_read_fault : outcome.status ≢ ReadFault
+  pub no_write_fault : outcome.status ≢ WriteFault
+  pub no_lack : outcome.status ≢ NoMemory
+  pub difference : outcome.status ≡ Different → command ≡ inputs.Replay
+  pub certificate : outcome.status ≡ CertRefused → command ≡ inputs.Lrat
+  pub kept : outcome.status ≢ CertRefused → outcome.kept ≡ Nothing

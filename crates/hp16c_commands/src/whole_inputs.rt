@@ -1,0 +1,117 @@
+// The commands that read their whole input before they answer.
+ghost use Rattle.std.specs.Prelude.{◌≡◌, ◌≢◌, ◌+◌, ◌≤◌, length, IfSome, IfOk};
+ghost use Rattle.hp_io.specs.Causes.{CallsAtMost, Rose};
+ghost use Rattle.hp16c_commands.specs.WholeInputs.{limit_of, Answers, IsAnswerTo, IsAnswer, IsOutcomeOf};
+ghost use Rattle.hp16c_commands.specs.WholeInputs.{WasGiven, WasCutShort, WasTold, IfGiven};
+
+use crate::answers::Answer;
+use crate::lrat::check_proof;
+use crate::outcomes::{Kept, Outcome, Status};
+use crate::replays::replay_start;
+use crate::routines::{assemble_routine, list_routine};
+use hp_io::{Bytes, Failed, ReadStop, Sink, Source, Taken, read_limited, write_whole};
+use std::alloc::{AllocError, Global};
+
+/// The commands that read their whole input, within a limit, before they answer.
+#[derive(Clone, Copy, Debug, PartialEq, Eq)]
+pub enum WholeInput {
+    /// `lrat`: checks an LRAT proof after its clauses, and writes what the check says.
+    Lrat,
+    /// `asm`: reads a routine as assembly, and writes its codes.
+    Assemble,
+    /// `list`: reads a routine as codes, and writes its assembly.
+    List,
+    /// `replay`: runs both routines of a problem from a start, and writes what is seen of them.
+    Replay,
+}
+
+impl WholeInput {
+    /// The greatest input, in bytes.
+    pub fn limit(self) -> u64
+        ensures { result ≡ limit_of self }
+    {
+        match self {
+            WholeInput::Lrat => 268_435_456,
+            WholeInput::Assemble | WholeInput::List => 65_536,
+            WholeInput::Replay => 131_072,
+        }
+    }
+}
+
+// An answer to bytes that were read whole.
+fn find_answer(alloc: Global, command: WholeInput, bytes: &Bytes) -> Result<Answer, AllocError>
+    requires { length bytes.now ≤ limit_of command }
+    ensures { IfOk result (Answers command bytes.now) }
+{
+    match command {
+        WholeInput::Lrat => check_proof(alloc, bytes),
+        WholeInput::Assemble => assemble_routine(alloc, bytes),
+        WholeInput::List => list_routine(alloc, bytes),
+        WholeInput::Replay => replay_start(alloc, bytes),
+    }
+}
+
+// Reads a source, and finds an answer to its bytes.
+fn read_answer<S: Source>(
+    alloc: Global,
+    command: WholeInput,
+    source: &mut S,
+) -> Result<Answer, ReadStop>
+    ensures answer { IfOk result (IsAnswer command (S.left source.old) (S.left source.new)) }
+    ensures outcome { IfOk result (λ answer. IsOutcomeOf command answer.outcome) }
+    ensures told { IfSome (S.left source.old) (λ bytes.
+        IfOk result (λ answer. IsAnswerTo command bytes answer)) }
+    ensures failed { result ≡ Err ReadStop.Failed
+        → Rose (S.faults source.old) (S.faults source.new) }
+    ensures faults { S.faults source.old ≤ S.faults source.new }
+    ensures calls { CallsAtMost (limit_of command + 1) (S.calls source.old) (S.calls source.new) }
+{
+    let found = match read_limited(alloc, source, command.limit())? {
+        Taken::Whole(bytes) => find_answer(alloc, command, &bytes),
+        Taken::TooLong => Answer::too_long(alloc),
+    };
+    match found {
+        Ok(answer) => Ok(answer),
+        Err(AllocError) => Err(ReadStop::NoMemory),
+    }
+}
+
+/// Reads a source to its end, and writes an answer to its bytes. It takes memory for the bytes and
+/// for the answer.
+pub fn answer_input<S: Source, K: Sink>(
+    alloc: Global,
+    command: WholeInput,
+    source: &mut S,
+    sink: &mut K,
+) -> Outcome
+    ensures given { IfGiven result.status (WasGiven command result
+        (S.left source.old) (S.left source.new) (K.written sink.old) (K.written sink.new)) }
+    ensures read_fault { result.status ≡ Status.ReadFault → sink.new ≡ sink.old }
+    ensures no_memory { result.status ≡ Status.NoMemory → sink.new ≡ sink.old }
+    ensures write_fault { result.status ≡ Status.WriteFault → WasCutShort command
+        (S.left source.old) (S.left source.new) (K.written sink.old) (K.written sink.new) }
+    ensures told { IfSome (S.left source.old) (λ bytes. IfGiven result.status
+        (WasTold command bytes result (K.written sink.old) (K.written sink.new))) }
+
+    // When each status comes that the answers don't decide, and when something is kept.
+    ensures no_usage { result.status ≢ Status.Usage }
+    ensures difference { result.status ≡ Status.Different → command ≡ WholeInput.Replay }
+    ensures certificate { result.status ≡ Status.CertRefused → command ≡ WholeInput.Lrat }
+    ensures kept { result.status ≢ Status.CertRefused → result.kept ≡ Kept.Nothing }
+    ensures read_cause { result.status ≡ Status.ReadFault
+        → Rose (S.faults source.old) (S.faults source.new) }
+    ensures write_cause { result.status ≡ Status.WriteFault
+        → Rose (K.faults sink.old) (K.faults sink.new) }
+    ensures read_faults { S.faults source.old ≤ S.faults source.new }
+    ensures write_faults { K.faults sink.old ≤ K.faults sink.new }
+    ensures calls { CallsAtMost (limit_of command + 1) (S.calls source.old) (S.calls source.new) }
+{
+    match read_answer(alloc, command, source) {
+        Ok(answer) => match write_whole(sink, answer.text.as_bytes()) {
+            Ok(()) => answer.outcome,
+            Err(Failed) => Outcome::of(Status::WriteFault),
+        },
+        Err(ReadStop::Failed) => Outcome::of(Status::ReadFault),
+        Err(ReadStop::NoMemory) => Outcome::of(Status::NoMemory),
+    }
+}

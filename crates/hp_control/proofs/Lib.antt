@@ -1,0 +1,4 @@
+pub mod Entries
+pub mod Erring
+pub mod Few
+pub mod Sizes
