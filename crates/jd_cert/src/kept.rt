@@ -1,0 +1,83 @@
+//! What the events of a certificate tell, kept: whoever wants the whole tree puts the events here.
+ghost use Rattle.std.specs.Prelude.{◌≡◌, OnOk};
+ghost use Rattle.jd_logic.specs.Ranges.{AreLines};
+ghost use Rattle.jd_trees.specs.Trees.{node};
+ghost use Rattle.jd_trees.specs.CertTexts.{nothing_told, with_event};
+
+use jd_lrat::{Line, Log, NoMemory};
+use jd_trees::{CertEvent, Kind, Node};
+use std::alloc::Global;
+use std::marker::Model;
+use std::mem;
+
+/// The nodes that are whole, and the kind and the lines of the leaf or cut that began last.
+#[derive(Drop)]
+pub struct Kept {
+    alloc: Global,
+    nodes: Vec<Node>,
+    kind: Kind,
+    log: Vec<Line>,
+}
+
+impl Model for Kept {
+    ghost use Rattle.jd_trees.specs.CertTexts.{Told};
+
+    ghost Value = { Told };
+
+    ghost view = { λ k. record { nodes = k.nodes.items; kind = k.kind; log = k.log.items } };
+}
+
+/// A leaf or a cut.
+fn node(kind: Kind, log: Vec<Line>) -> Node
+    requires { AreLines log.items }
+    ensures { result ≡ node kind log.items }
+{
+    match kind {
+        Kind::Whole => Node::Leaf(Log::new(log)),
+        Kind::Cut => Node::Cut(Log::new(log)),
+    }
+}
+
+impl Kept {
+    pub fn new(alloc: Global) -> Kept
+        ensures { result ≡ nothing_told }
+    {
+        Kept {
+            alloc,
+            nodes: Vec::new(alloc),
+            kind: Kind::Whole,
+            log: Vec::new(alloc),
+        }
+    }
+
+    pub fn into_nodes(self) -> Vec<Node>
+        ensures { result.items ≡ self.nodes }
+    {
+        self.nodes
+    }
+
+    /// Takes what an event tells.
+    pub fn put(&mut self, event: CertEvent) -> Result<(), NoMemory>
+        requires { AreLines self.old.log }
+        ensures { OnOk result (self.new ≡ with_event self.old event) }
+    {
+        match event {
+            CertEvent::Nothing => {}
+            CertEvent::Fork => self.nodes.push(Node::Fork)?,
+            CertEvent::Leaf => {
+                self.kind = Kind::Whole;
+                self.log.clear();
+            }
+            CertEvent::Cut => {
+                self.kind = Kind::Cut;
+                self.log.clear();
+            }
+            CertEvent::Proof(line) => self.log.push(line)?,
+            CertEvent::End => {
+                let log = mem::replace(&mut self.log, Vec::new(self.alloc));
+                self.nodes.push(node(self.kind, log))?;
+            }
+        }
+        Ok(())
+    }
+}
