@@ -1,0 +1,17 @@
+//! Rules for gates, which a circuit asks before it adds one. A rule is a closure beside the fact that
+//! what it answers is what the gate means, so that no rule changes what a circuit's literals mean.
+//! Whoever holds the closures, as `main` or a test, boxes them and hands them in: no function here
+//! makes a rule.
+//!
+//! - a rule of a closure: `Rule::new`; rules in their order: `RuleSet::new`
+//! - functions for closures to call: `constant_and`, `constant_xor`
+#![tactic(auto)]
+
+mod constants;
+mod first;
+mod rule;
+mod set;
+
+pub use constants::{constant_and, constant_xor};
+pub use rule::Rule;
+pub use set::RuleSet;
