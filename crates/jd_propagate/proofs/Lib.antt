@@ -1,0 +1,15 @@
+pub mod Members
+pub mod Closure
+pub mod Models
+pub mod Bound
+pub mod Explained
+pub mod TrailSteps
+pub mod ListSteps
+pub mod Watching
+pub mod Lines
+pub mod Passes
+pub mod Turns
+pub mod Steps
+pub mod Extensions
+pub mod Keeping
+pub mod Attaching

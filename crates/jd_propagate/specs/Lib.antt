@@ -1,0 +1,10 @@
+pub mod Quiet
+pub mod Room
+pub mod Hints
+pub mod Trails
+pub mod Reasons
+pub mod Lists
+pub mod Watched
+pub mod Levels
+pub mod Passing
+pub mod Answers

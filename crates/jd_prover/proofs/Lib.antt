@@ -1,0 +1,10 @@
+pub mod Stored
+pub mod Taking
+pub mod Hinting
+pub mod Cutting
+pub mod Outcomes
+pub mod Running
+pub mod Deciding
+pub mod Beginning
+pub mod Logged
+pub mod Backing

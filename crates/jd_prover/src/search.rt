@@ -1,0 +1,250 @@
+//! The search over the inputs' values.
+ghost use Rattle.std.specs.Prelude.{◌≡◌, ℕ, ◌-◌, ◌<◌, ◌≤◌, ◌^◌, false, IfOk, Some, None, length, slice_index};
+ghost use Rattle.std.specs.List.{list_any};
+ghost use Rattle.jd_logic.specs.Checking.{is_empty};
+ghost use Rattle.jd_proving.specs.Proving.{AreDecided};
+ghost use Rattle.jd_propagate.specs.Answers.{IsAnswer};
+ghost use Rattle.jd_propagate.specs.Hints.{IsFalseBy};
+ghost use Rattle.jd_propagate.specs.Passing.{clause_of};
+ghost use Rattle.jd_prover.specs.Solving.{IsTaken};
+ghost use Rattle.jd_prover.specs.Searching.{IsStart, IsNode, IsTurned};
+
+use crate::Solver;
+use crate::decide::{decide, next_open, turn_back, values};
+use crate::line::conflict_line;
+use crate::setup::{begin, has_empty, take_all};
+use jd_propagate::propagate::propagate;
+use jd_propagate::{Bits, Clauses, Log, NoMemory, Proof};
+use std::alloc::Global;
+
+/// Where a search stands: the inputs up to a cursor have values, and all clauses are quiet, or that
+/// at a place is false.
+#[derive(Clone, Copy)]
+pub struct Node {
+    pub cursor: u32,
+    pub conflict: Option<usize>,
+}
+
+/// What a turn of the search gives.
+#[derive(Drop)]
+pub enum Turned {
+    Goes(Node),
+    Refuted,
+    Model(Vec<bool>),
+    Spent,
+}
+
+/// Where a watched clause was given.
+fn origin_of(solver: &Solver, clause: usize) -> usize
+    requires { clause < length solver.now.origins.items }
+    ensures { result ≡ slice_index solver.now.origins.items clause }
+{
+    solver.origins[clause]
+}
+
+/// Propagates from a place of the trail on; the place of a clause given that is false, or None.
+fn run(
+    _clauses: &Clauses,
+    _inputs: u32,
+    _cursor: u32,
+    solver: &mut Solver,
+    from: usize,
+) -> Result<Option<usize>, NoMemory>
+    requires { IsStart _clauses.now _inputs _cursor solver.old from }
+    ensures node { IfOk result (λ found. IsNode _clauses.now _inputs _cursor solver.new found) }
+    ensures lines { solver.new.lines.items ≡ solver.old.lines.items }
+{
+    let found = propagate(
+        &solver.long,
+        &mut solver.firsts,
+        &mut solver.seconds,
+        &mut solver.lists,
+        &mut solver.trail,
+        &mut solver.reasons,
+        from,
+    )?;
+    match found {
+        Some(c) => Ok(Some(origin_of(solver, c))),
+        None => Ok(None),
+    }
+}
+
+/// Propagates from the last literal on.
+fn go_on(
+    clauses: &Clauses,
+    inputs: u32,
+    cursor: u32,
+    solver: &mut Solver,
+) -> Result<Turned, NoMemory>
+    requires start { IsStart clauses.now inputs cursor solver.old (length solver.old.trail - 1) }
+    requires some { 0 < length solver.old.trail }
+    ensures { IfOk result (λ turn. (budget : ℕ) → length solver.old.lines.items ≤ budget → IsTurned clauses.now inputs budget solver.new turn) }
+{
+    let from = solver.trail.len() - 1;
+    let conflict = run(clauses, inputs, cursor, solver, from)?;
+    Ok(Turned::Goes(Node { cursor, conflict }))
+}
+
+/// Adds the line of a conflict, and tries the other value of the last decision's variable.
+fn refute(
+    alloc: Global,
+    clauses: &Clauses,
+    inputs: u32,
+    budget: u32,
+    cursor: u32,
+    conflict: usize,
+    solver: &mut Solver,
+) -> Result<Turned, NoMemory>
+    requires many { length clauses.now < 2 ^ 31 }
+    requires none_empty { list_any is_empty clauses.now ≡ false }
+    requires small { budget ≤ 2 ^ 20 }
+    requires few { length solver.old.lines.items < budget }
+    requires node { IsNode clauses.now inputs cursor solver.old (Some conflict) }
+    ensures { IfOk result (λ turn. IsTurned clauses.now inputs budget solver.new turn) }
+{
+    let id = clauses.len() as u64 + solver.lines.len() as u64 + 1;
+    let line = conflict_line(alloc, clauses, solver, conflict, id)?;
+    if solver.decisions.is_empty() {
+        solver.lines.push(line)?;
+        return Ok(Turned::Refuted);
+    }
+    let variable = turn_back(clauses, inputs, cursor, solver, line, id)?;
+    let turn = go_on(clauses, inputs, variable, solver)?;
+    Ok(turn)
+}
+
+/// Decides the next input without a value, or finds that all have one.
+fn descend(
+    alloc: Global,
+    clauses: &Clauses,
+    inputs: u32,
+    budget: u32,
+    cursor: u32,
+    solver: &mut Solver,
+) -> Result<Turned, NoMemory>
+    requires small { inputs < 2 ^ 31 }
+    requires decided { AreDecided clauses.now inputs }
+    requires few { length solver.old.lines.items ≤ budget }
+    requires node { IsNode clauses.now inputs cursor solver.old None }
+    ensures { IfOk result (λ turn. IsTurned clauses.now inputs budget solver.new turn) }
+{
+    let _literals = solver.trail.literals();
+    match next_open(&solver.trail, cursor, inputs) {
+        None => Ok(Turned::Model(values(alloc, &solver.trail, inputs)?)),
+        Some(variable) => {
+            decide(clauses, inputs, cursor, solver, variable)?;
+            let turn = go_on(clauses, inputs, variable, solver)?;
+            Ok(turn)
+        }
+    }
+}
+
+/// One turn of the search.
+fn turn(
+    alloc: Global,
+    clauses: &Clauses,
+    inputs: u32,
+    budget: u32,
+    node: Node,
+    solver: &mut Solver,
+) -> Result<Turned, NoMemory>
+    requires many { length clauses.now < 2 ^ 31 }
+    requires none_empty { list_any is_empty clauses.now ≡ false }
+    requires small { (inputs < 2 ^ 31) × (budget ≤ 2 ^ 20) }
+    requires decided { AreDecided clauses.now inputs }
+    requires few { length solver.old.lines.items ≤ budget }
+    requires node { IsNode clauses.now inputs node.cursor solver.old node.conflict }
+    ensures { IfOk result (λ turn. IsTurned clauses.now inputs budget solver.new turn) }
+{
+    match node.conflict {
+        None => descend(alloc, clauses, inputs, budget, node.cursor, solver),
+        Some(conflict) => {
+            if solver.lines.len() >= budget as usize {
+                return Ok(Turned::Spent);
+            }
+            refute(
+                alloc,
+                clauses,
+                inputs,
+                budget,
+                node.cursor,
+                conflict,
+                solver,
+            )
+        }
+    }
+}
+
+/// Goes over the inputs' values once all clauses are taken.
+fn search(
+    alloc: Global,
+    clauses: &Clauses,
+    inputs: u32,
+    budget: u32,
+    taken: Solver,
+) -> Result<Proof, NoMemory>
+    requires many { length clauses.now < 2 ^ 31 }
+    requires none_empty { list_any is_empty clauses.now ≡ false }
+    requires small { (inputs < 2 ^ 31) × (budget ≤ 2 ^ 20) }
+    requires decided { AreDecided clauses.now inputs }
+    requires taken { IsTaken clauses.now (length clauses.now) taken }
+    ensures { IfOk result (λ proof. IsAnswer clauses.now inputs budget proof) }
+{
+    let mut solver = taken;
+    let conflict = run(clauses, inputs, 0, &mut solver, 0)?;
+    let mut node = Node {
+        cursor: 0,
+        conflict,
+    };
+    'nodes: for _ in 0..u64::MAX {
+        match turn(alloc, clauses, inputs, budget, node, &mut solver)? {
+            Turned::Goes(next) => node = next,
+            Turned::Refuted => return Ok(Proof::Refuted(Log::new(solver.lines))),
+            Turned::Model(bits) => return Ok(Proof::Model(Bits::new(bits))),
+            Turned::Spent => return Ok(Proof::Unknown(Log::new(solver.lines))),
+        }
+    }
+    Err(NoMemory)
+}
+
+/// Ends at a clause that is false before any decision.
+pub fn refute_begun(
+    alloc: Global,
+    clauses: &Clauses,
+    conflict: usize,
+    taken: Solver,
+) -> Result<Proof, NoMemory>
+    requires many { length clauses.now < 2 ^ 31 }
+    requires none_empty { list_any is_empty clauses.now ≡ false }
+    requires in_clauses { conflict < length clauses.now }
+    requires taken { IsTaken clauses.now conflict taken }
+    requires conflict { IsFalseBy taken.trail (clause_of clauses.now conflict) }
+    ensures { IfOk result (λ proof. (inputs budget : ℕ) → 0 < budget → IsAnswer clauses.now inputs budget proof) }
+{
+    let mut solver = taken;
+    let id = clauses.len() as u64 + 1;
+    let line = conflict_line(alloc, clauses, &solver, conflict, id)?;
+    solver.lines.push(line)?;
+    Ok(Proof::Refuted(Log::new(solver.lines)))
+}
+
+/// Searches for a refutation by values of the inputs, or for a model. Where the clauses or the
+/// inputs are 2^31 or more, it answers `NoMemory`.
+pub fn prove(alloc: Global, clauses: &Clauses, inputs: u32, budget: u32) -> Result<Proof, NoMemory>
+    requires decided { AreDecided clauses.now inputs }
+    requires some { 0 < budget }
+    requires small { budget ≤ 2 ^ 20 }
+    ensures { IfOk result (λ proof. IsAnswer clauses.now inputs budget proof) }
+{
+    if clauses.len() >= 0x8000_0000 || inputs >= 0x8000_0000 {
+        return Err(NoMemory);
+    }
+    if has_empty(clauses) {
+        return Ok(Proof::Refuted(Log::new(Vec::new(alloc))));
+    }
+    let mut solver = begin(alloc);
+    match take_all(alloc, clauses, &mut solver)? {
+        Some(conflict) => refute_begun(alloc, clauses, conflict, solver),
+        None => search(alloc, clauses, inputs, budget, solver),
+    }
+}

@@ -1,0 +1,144 @@
+//! The clauses given, taken one by one.
+ghost use Rattle.std.specs.Prelude.{◌≡◌, ◌+◌, ◌<◌, ◌^◌, ℤ, neg_ℤ, false, IfOk, length, List, slice_index_or, MatchOption};
+ghost use Rattle.std.specs.List.{list_any};
+ghost use Rattle.jd_logic.specs.Literals.{IsLiteral, has};
+ghost use Rattle.jd_logic.specs.Checking.{is_empty};
+ghost use Rattle.jd_propagate.specs.Quiet.{IsIn};
+ghost use Rattle.jd_propagate.specs.Passing.{clause_of};
+ghost use Rattle.jd_prover.specs.Solving.{IsTaken, IsTakenBy, AreTaken};
+
+use crate::solver::{Solver, make_true};
+use jd_propagate::attach::{other_than, watch};
+use jd_propagate::{Clauses, NoMemory, Reason, Trail};
+use std::alloc::Global;
+
+/// Whether a literal's negation is true.
+fn is_false(trail: &Trail, l: i32) -> bool
+    requires { IsLiteral l }
+    ensures { result ≡ has trail.now (neg_ℤ l) }
+{
+    trail.has(-l)
+}
+
+/// The first literal of a clause.
+fn first_of(clause: &[i32]) -> i32
+    requires { is_empty clause.now ≡ false }
+    ensures { IsIn clause.now result }
+{
+    clause[0]
+}
+
+/// Makes the one literal of a clause true, or finds it false.
+fn take_unit(clauses: &Clauses, solver: &mut Solver, at: usize, l: i32) -> Result<bool, NoMemory>
+    requires in_clauses { at < length clauses.now }
+    requires small { length clauses.now < 2 ^ 31 }
+    requires among { IsIn (clause_of clauses.now at) l }
+    requires alone { (m : ℤ) → IsIn (clause_of clauses.now at) m → m ≡ l }
+    requires literal { IsLiteral l }
+    requires taken { IsTaken clauses.now at solver.old }
+    ensures { IfOk result (λ kept. IsTakenBy clauses.now at solver.new kept) }
+{
+    if solver.trail.has(l) {
+        return Ok(true);
+    }
+    if is_false(&solver.trail, l) {
+        return Ok(false);
+    }
+    make_true(
+        &mut solver.trail,
+        &mut solver.reasons,
+        l,
+        Reason::Line(at as u64 + 1),
+    )?;
+    Ok(true)
+}
+
+/// Takes a clause: watches two of its literals, or makes its only one true. Whether it isn't false.
+pub fn take_clause(
+    alloc: Global,
+    clauses: &Clauses,
+    solver: &mut Solver,
+    at: usize,
+) -> Result<bool, NoMemory>
+    requires in_clauses { at < length clauses.now }
+    requires small { length clauses.now < 2 ^ 31 }
+    requires not_empty { is_empty (clause_of clauses.now at) ≡ false }
+    requires taken { IsTaken clauses.now at solver.old }
+    ensures { IfOk result (λ kept. IsTakenBy clauses.now at solver.new kept) }
+{
+    let clause = clauses.clause(at);
+    let first = first_of(clause);
+    match other_than(clause, first) {
+        Some(second) => {
+            watch(
+                alloc,
+                &mut solver.long,
+                &mut solver.firsts,
+                &mut solver.seconds,
+                &mut solver.lists,
+                clause,
+                first,
+                second,
+            )?;
+            solver.origins.push(at)?;
+            Ok(true)
+        }
+        None => take_unit(clauses, solver, at, first),
+    }
+}
+
+/// A search that knows nothing.
+pub fn begin(alloc: Global) -> Solver
+    ensures { (clauses : List (List ℤ)) → IsTaken clauses 0 result }
+{
+    Solver {
+        long: Clauses::new(alloc),
+        origins: Vec::new(alloc),
+        firsts: Vec::new(alloc),
+        seconds: Vec::new(alloc),
+        lists: Vec::new(alloc),
+        trail: Trail::new(alloc),
+        reasons: Vec::new(alloc),
+        decisions: Vec::new(alloc),
+        limits: Vec::new(alloc),
+        lines: Vec::new(alloc),
+    }
+}
+
+/// Whether a clause is empty.
+fn is_no_clause(clause: &[i32]) -> bool
+    ensures { result ≡ is_empty clause.now }
+{
+    clause.len() == 0
+}
+
+/// Whether some clause is empty.
+pub fn has_empty(clauses: &Clauses) -> bool
+    ensures { result ≡ list_any is_empty clauses.now }
+{
+    for at in 0..clauses.len() {
+        if is_no_clause(clauses.clause(at)) {
+            return true;
+        }
+    }
+    false
+}
+
+/// Takes all clauses, or finds one that is false.
+pub fn take_all(
+    alloc: Global,
+    clauses: &Clauses,
+    solver: &mut Solver,
+) -> Result<Option<usize>, NoMemory>
+    requires small { length clauses.now < 2 ^ 31 }
+    requires none_empty { list_any is_empty clauses.now ≡ false }
+    requires begun { IsTaken clauses.now 0 solver.old }
+    ensures { IfOk result (λ found. AreTaken clauses.now solver.new found) }
+{
+    for at in 0..clauses.len() {
+        if !take_clause(alloc, clauses, solver, at)? {
+            return Ok(Some(at));
+        }
+    }
+    Ok(None)
+}

@@ -1,0 +1,3 @@
+pub mod Propagation
+pub mod Proving
+pub mod WorkedProving
