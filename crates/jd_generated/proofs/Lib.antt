@@ -1,0 +1,4 @@
+pub mod Lines
+pub mod Draws
+pub mod Runs
+pub mod Agreement

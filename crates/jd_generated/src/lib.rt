@@ -1,0 +1,7 @@
+//! Pairs of routines that are generated from a number: what they are, and that they agree from every
+//! allowed start.
+#![tactic(auto)]
+
+mod laws;
+
+pub use laws::{generated_routines_agree, worked_generated};
