@@ -1,4 +1,4 @@
-//! Answers to what operations ask, one a question, in order.
+// Answers to what operations ask, one a question, in order.
 ghost use Rattle.std.specs.Prelude.{◌≡◌, ℕ, ◌+◌, ◌^◌, ◌<◌, ◌≤◌, length};
 ghost use Rattle.hp_model.specs.Words.{number_of_bits};
 ghost use Rattle.hp_model.specs.ControlStep.{answer_at as answer_at_place, number_given as number_given_by};

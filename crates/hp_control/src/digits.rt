@@ -1,4 +1,4 @@
-//! Digit entry.
+// Digit entry.
 ghost use Rattle.std.specs.Prelude.{◌≡◌, ℕ, ◌^◌, ◌<◌, IfSome, Some, None, if◌then◌else◌};
 ghost use Rattle.hp_model.specs.ControlStep.{greatest_entry as greatest_entry_of, longer_entry as longer_entry_of, is_ignored};
 ghost use Rattle.hp_control.specs.Controls.{control_of, Listing};

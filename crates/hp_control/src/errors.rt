@@ -1,4 +1,4 @@
-//! Errors of operations, from the answers to what they ask.
+// Errors of operations, from the answers to what they ask.
 ghost use Rattle.std.specs.Prelude.{◌≡◌, ℕ, ◌+◌, ◌≤◌, true, Bool, length};
 ghost use Rattle.hp_model.specs.State.{register_count as register_count_of};
 ghost use Rattle.hp_model.specs.Questions.{place_questions, are_complete};

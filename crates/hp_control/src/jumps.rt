@@ -1,4 +1,4 @@
-//! Jumps, subroutines and their returns.
+// Jumps, subroutines and their returns.
 ghost use Rattle.std.specs.Prelude.{◌≡◌, ◌≤◌, Bool, List};
 ghost use Rattle.hp_model.specs.Operations as ops;
 ghost use Rattle.hp_ops.specs.Meaning.{named, of_jump};
@@ -12,6 +12,7 @@ use hp_model::{End, Stop};
 use hp_ops::{Jump, Target};
 
 /// A jump to a label.
+#[inline(always)]
 fn step_goto<P: Program>(control: &mut Control, program: &P, target: Target, given: &[bool]) -> Stop
     requires bounds { InBounds control.old (P.listing program.now) }
     requires answered { IsAnswered control.old (P.listing program.now)

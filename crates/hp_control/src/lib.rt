@@ -1,5 +1,5 @@
-//! What operations do to control, from the answers to what they ask: the calculator and a machine of
-//! literals take the same way by it. It sees a program's codes, and nothing of the data.
+//! What operations do to control, from the answers to what they ask: the calculator and a machine
+//! of literals take the same way by it. It sees a program's codes, and nothing of the data.
 #![tactic(auto)]
 
 mod answers;

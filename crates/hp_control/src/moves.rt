@@ -1,4 +1,4 @@
-//! How operations end in control.
+// How operations end in control.
 ghost use Rattle.std.specs.Prelude.{◌≡◌, ◌+◌, ◌≤◌, length, None};
 ghost use Rattle.hp_model.specs.ControlStep.{skipping};
 ghost use Rattle.hp_control.specs.Controls.{control_of};

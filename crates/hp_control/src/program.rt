@@ -1,4 +1,4 @@
-//! Programs as control sees them.
+// Programs as control sees them.
 ghost use Rattle.std.specs.Prelude.{◌≡◌, ◌-◌, ◌*◌, ◌≤◌, length, slice_index};
 ghost use Rattle.hp_model.specs.State.{large_bytes};
 ghost use Rattle.hp_control.specs.Controls.{Listing, listing_of};

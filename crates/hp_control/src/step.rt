@@ -1,4 +1,4 @@
-//! What operations do to control.
+// What operations do to control.
 ghost use Rattle.std.specs.Prelude.{◌≡◌, ◌≤◌, length, None, Bool, List};
 ghost use Rattle.hp_model.specs.ControlStep.{number_given as number_given_by, size_given as size_given_by};
 ghost use Rattle.hp_model.specs.Operations as ops;
@@ -87,7 +87,8 @@ pub fn step_done<P: Program>(control: &mut Control, program: &P, op: Op, given: 
     requires bounds { InBounds control.old (P.listing program.now) }
     requires from { IsFromALine (operation op) control.old.line }
     requires answered { IsAnswered control.old (P.listing program.now) (operation op) given.now }
-    requires no_error { error_in control.old (P.listing program.now) (operation op) given.now ≡ None }
+    requires no_error { error_in control.old (P.listing program.now)
+        (operation op) given.now ≡ None }
     ensures { Does control.old control.new (P.listing program.now) (operation op) given.now result }
 {
     match op {
@@ -133,7 +134,7 @@ pub fn step_done<P: Program>(control: &mut Control, program: &P, op: Op, given: 
 }
 
 /// Does to control what an operation does, from the answers to what it asks. The label of a jump is
-/// sought once.
+/// sought once. All is inlined into the loop of runs, so that no answer goes through memory.
 #[inline(always)]
 pub fn step_control<P: Program>(control: &mut Control, program: &P, op: Op, given: &[bool]) -> Stop
     requires bounds { InBounds control.old (P.listing program.now) }

@@ -1,4 +1,4 @@
-//! Where jumps go: the search for a label, and the errors of a jump that goes nowhere.
+// Where jumps go: the search for a label, and the errors of a jump that goes nowhere.
 ghost use Rattle.std.specs.Prelude.{◌≡◌, ℕ, ◌+◌, ◌-◌, ◌<◌, ◌≤◌, ◌==◌, max, length, slice_index, true, Some, IfSome, IfOk};
 ghost use Rattle.std.specs.Option.{ok_or};
 ghost use Rattle.std.specs.Result.{result_err};
@@ -97,8 +97,8 @@ pub(crate) fn goto_line<P: Program>(
     target_line(control, program, target, given).ok_or(4)
 }
 
-/// The line of a GSB, or Error 4 where its label is missing, and else Error 5 where four returns are
-/// pending.
+/// The line of a GSB, or Error 4 where its label is missing, and else Error 5 where four returns
+/// are pending.
 pub(crate) fn gosub_line<P: Program>(
     control: &Control,
     program: &P,

@@ -1,5 +1,5 @@
 -- The data stays within the word size, whatever control does.
-use Rattle.std.proofs.Common.{◌≡◌, ℕ, List, Bool, inl, inr, sym, subst}
+use Rattle.std.proofs.Common.{ℕ, List, Bool, inl, inr, sym, subst}
 use Rattle.hp_words.specs.declared.content.Content.{Content}
 use Rattle.hp_ops.specs.declared.op.Op.{Op}
 use Rattle.hp_ops.specs.declared.op.Op.TheVariants as op

@@ -41,7 +41,8 @@ fn remainder(machine: &mut Machine) -> bool
     }
 }
 
-/// The square root, and whether there is one, as the question is asked: only a proof wants it apart.
+/// The square root, and whether there is one, as the question is asked. Only a proof
+/// wants it apart.
 fn real_root(x: Word) -> Result<Answer, Error0>
     ensures asked { int_lt (value x.size.bits x.mode x.pattern) (pos 0) ≡ is_err result }
     ensures value { IfOk result (λ answer. answer ≡ root_of x.size.bits x.mode x.pattern) }

@@ -5,8 +5,8 @@ ghost use Rattle.hp_model.specs.Questions.{numbers_below};
 
 use arrayvec::ArrayVec;
 
-/// Answers in order. The most are asked where the index register names a register: whether there are
-/// so many, and then eleven bits.
+/// Answers in order. The most are asked where the index register names a register: whether there
+/// are so many, and then eleven bits.
 pub type Given = ArrayVec<bool, 12>;
 
 /// Answers no, and then so many bits of a number, the lowest first.

@@ -1,5 +1,5 @@
-//! The machine: control, what operations work on, and memory, and one operation done to it. Control is
-//! decided below, in hp_control, from the answers that the data gives here.
+//! The machine: control, what operations work on, and memory, and one operation done to it. Control
+//! is decided below, in hp_control, from the answers that the data gives here.
 #![tactic(auto)]
 
 mod answers;

@@ -1,4 +1,4 @@
-use Rattle.std.proofs.Common.{◌≡◌, ℕ, ap, subst}
+use Rattle.std.proofs.Common.{subst}
 use Rattle.hp_model.specs.State.{Control}
 use Rattle.hp_model.specs.declared.Stop.{Stop}
 use Rattle.hp_control.specs.Controls.{HasSize}

@@ -1,7 +1,6 @@
-use Rattle.std.proofs.Common.{◌≡◌, ℕ, List, Bool, sym, ap, subst}
+use Rattle.std.proofs.Common.{ℕ, List, Bool, sym, ap, subst}
 use Rattle.hp_model.specs.State.{Control}
-use Rattle.hp_model.specs.Questions.{IsComplete, answers}
-use Rattle.hp_model.specs.ControlStep.{control_step}
+use Rattle.hp_model.specs.Questions.{IsComplete}
 use Rattle.hp_model.proofs.CompleteAnswers.{answers-complete}
 use Rattle.hp_ops.specs.Meaning.{operation}
 use Rattle.hp_core.specs.FromLines.{IsFromALine}
