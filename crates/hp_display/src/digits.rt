@@ -1,35 +1,11 @@
 // The digits of a number by their places.
-ghost use Rattle.std.specs.Prelude.{◌≡◌, ℕ, ◌+◌, ◌-◌, ◌*◌, ◌/◌, ◌%◌, ◌^◌, ◌<◌, ◌≤◌, ◌++◌, length, true, decimal};
-ghost use Rattle.std.specs.Fmt.{digit_glyph};
-ghost use Rattle.hp_model.specs.Texts.{digit_text};
+ghost use Rattle.std.specs.Prelude.{◌≡◌, ℕ, ◌+◌, ◌-◌, ◌*◌, ◌/◌, ◌%◌, ◌^◌, ◌<◌, ◌≤◌, ◌++◌, length, decimal};
 ghost use Rattle.hp_model.specs.Display.{has_digit, place_text, places_text};
 ghost use Rattle.arrayvec.specs.ArrayString.{array_string_len};
 
 use arrayvec::ArrayString;
 use itoa::Buffer;
-
-/// The character of a hexadecimal digit.
-fn digit_code(digit: u8) -> u8
-    requires { digit < 16 }
-    ensures value { result ≡ digit_glyph true digit }
-    ensures ascii { result < 128 }
-{
-    if digit < 10 {
-        b'0' + digit
-    } else {
-        b'A' + (digit - 10)
-    }
-}
-
-/// A hexadecimal digit is added to a text.
-pub fn push_digit(text: &mut ArrayString<32>, digit: u8)
-    requires digit { digit < 16 }
-    requires room { array_string_len text.old < 32 }
-    ensures text { text.new.bytes ≡ text.old.bytes ++ digit_text digit }
-    ensures len { array_string_len text.new ≡ array_string_len text.old + 1 }
-{
-    text.push(digit_code(digit) as char);
-}
+use jd_numbers::push_digit;
 
 /// A number without its digits below a place, for digits of so many bits.
 fn above_place(n: u64, bits: u32, place: u32) -> u64

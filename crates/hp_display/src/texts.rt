@@ -1,19 +1,18 @@
 // The texts of each view.
-ghost use Rattle.std.specs.Prelude.{◌≡◌, ℕ, ◌+◌, ◌-◌, ◌<◌, ◌≤◌, ◌/◌, ◌%◌, ◌++◌, [], ◌∷◌, length, codes, decimal, if◌then◌else◌};
+ghost use Rattle.std.specs.Prelude.{◌≡◌, ℕ, ◌+◌, ◌-◌, ◌<◌, ◌≤◌, ◌/◌, ◌%◌, ◌++◌, [], ◌∷◌, length, codes, decimal};
 ghost use Rattle.hp_model.specs.State.{flag};
-ghost use Rattle.hp_model.specs.Texts.{digit_text};
 ghost use Rattle.hp_model.specs.Display.{number_text, text_if, three_digits, line_text, mode_text, status_text, memory_text};
 ghost use Rattle.hp_core.specs.Machines.{control_of, data_of, machine_of};
 ghost use Rattle.hp_display.specs.Shifts.{shift_mark};
 ghost use Rattle.arrayvec.specs.ArrayString.{array_string_len};
 
-use crate::digits::push_digit;
 use crate::numbers::{push_if, push_number};
 use arrayvec::ArrayString;
 use hp_core::Machine;
 use hp_keys::Shift;
 use hp_model::{Base, Mode};
 use itoa::Buffer;
+use jd_numbers::{flag_digit, push_digit};
 
 /// The mark of a pending shift is added.
 fn push_shift(text: &mut ArrayString<32>, shift: Shift)
@@ -98,14 +97,6 @@ fn mode_digit(mode: Mode) -> char
     }
 }
 
-/// A flag as a digit.
-fn flag_digit(set: bool) -> char
-    ensures value { result ∷ [] ≡ (if set then codes "1" else codes "0") }
-    ensures ascii { result < 128 }
-{
-    if set { '1' } else { '0' }
-}
-
 /// The mode, the word size and the flags 3 to 0, as STATUS shows them.
 pub fn status(machine: &Machine) -> ArrayString<32>
     ensures text { result.bytes ≡ status_text (machine_of machine.now) }
@@ -126,7 +117,7 @@ pub fn status(machine: &Machine) -> ArrayString<32>
     text
 }
 
-/// A number is added in decimal digits.
+/// A number of at most five decimal digits is added.
 fn push_decimal(text: &mut ArrayString<32>, n: u16)
     requires room { array_string_len text.old ≤ 24 }
     ensures text { text.new.bytes ≡ text.old.bytes ++ decimal n }
@@ -135,8 +126,8 @@ fn push_decimal(text: &mut ArrayString<32>, n: u16)
     text.push_str(Buffer::new().format(n));
 }
 
-/// How memory is divided, as MEM shows it: the bytes that the program's blocks have left after `P-`,
-/// and the number of registers after `r-`.
+/// How memory is divided, as MEM shows it: the bytes that the program's blocks have left after
+/// `P-`, and the number of registers after `r-`.
 pub fn mem_line(machine: &Machine) -> ArrayString<32>
     ensures text { result.bytes ≡ memory_text (control_of machine.now) }
     ensures room { array_string_len result < 32 }

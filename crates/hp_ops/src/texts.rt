@@ -13,6 +13,7 @@ use crate::numbers::Register;
 use crate::op::Op;
 use arrayvec::ArrayString;
 use hp_model::{Base, Mode};
+use jd_numbers::push_digit;
 
 impl Stack {
     fn name(self) -> &'static str
@@ -187,20 +188,6 @@ fn named(name: &str) -> ArrayString<16>
     let mut text = ArrayString::new();
     text.push_str(name);
     text
-}
-
-/// Adds a hexadecimal digit.
-fn push_digit(text: &mut ArrayString<16>, digit: u8)
-    requires digit { digit < 16 }
-    requires room { array_string_len text.old < 16 }
-    ensures { text.new.bytes ≡ text.old.bytes ++ digit_text digit }
-{
-    let code = if digit < 10 {
-        b'0' + digit
-    } else {
-        b'A' + (digit - 10)
-    };
-    text.push(code as char);
 }
 
 /// A text of a name and a hexadecimal digit.
