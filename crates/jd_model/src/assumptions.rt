@@ -1,4 +1,5 @@
-//! What a problem may assume of its starts.
+//! What a problem may assume of its starts. Code and definitions share these types; what they mean
+//! stands in the definitions.
 
 /// A part of a start that is a number.
 #[derive(Clone, Copy, Debug, PartialEq, Eq)]

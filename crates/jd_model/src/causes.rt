@@ -1,4 +1,5 @@
-//! Why a line is refused.
+//! Why a line of a routine's text, of a problem or of a start is refused. Code and definitions
+//! share these types.
 
 /// Why a line of an assembly text is refused. Of those that stand together, the first comes.
 #[derive(Clone, Copy, Debug, PartialEq, Eq)]

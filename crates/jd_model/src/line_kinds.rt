@@ -1,4 +1,5 @@
-//! The versions of a problem's text, and the kinds of its lines.
+//! The versions of a problem's text, and the kinds of its lines. Code and definitions share these
+//! types; the order of the lines stands in the definitions.
 
 /// By which rules the text of a problem is read. Version 2 can choose the memory and state
 /// assumptions.

@@ -1,5 +1,7 @@
 -- A reading as the definitions see it, and its lines.
 use Rattle.std.specs.Prelude.{ℕ, Bool, true, false, nat_lt, if◌then◌else◌, List, Option, Some, None, Result}
+use Rattle.jd_text.specs.Readings.{Takes}
+use Rattle.jd_text.specs.Words.{words_of}
 use Rattle.jd_model.specs.declared.causes.ProblemCause.{ProblemCause}
 use Rattle.jd_model.specs.declared.causes.ProblemCause.TheVariants.{Repeated, Missing}
 use Rattle.jd_model.specs.declared.line_kinds.LineKind.{LineKind}
@@ -15,6 +17,10 @@ reading_of r = record { version = r.version; due = r.due; problem = problem_of r
 -- the reading with a line of a kind, by the words after its first
 abbrev pub line_of_kind : ReadingValue → LineKind → List (List ℕ) → Result ReadingValue ProblemCause
 line_of_kind r kind words = said_line r kind (said kind words)
+
+-- such a line was taken, or refused
+abbrev pub TakesKind : {T : Type 0} → Reading → LineKind → List ℕ → Result T ProblemCause → Reading → Type 0
+TakesKind old kind rest result new = Takes (line_of_kind (reading_of old) kind (words_of rest)) result (reading_of new)
 
 -- the lines that say one number
 abbrev pub is_number_line : LineKind → Bool

@@ -1,4 +1,4 @@
-//! Why a text gives no problem or no start.
+//! The first bad line of a text, as callers see it; the causes stand with the definitions.
 use jd_model::ProblemCause;
 use thiserror::Error;
 

@@ -1,4 +1,5 @@
-// The numbers of a start: how many bits each has, and what it is fixed at.
+// The numbers of a start: how many bits each has, and what it is fixed at. Starts and lists of bits
+// are gone through by these fields, so neither knows a part's name.
 ghost use Rattle.std.specs.Prelude.{◌≡◌, ◌+◌, ◌*◌, ◌<◌, ◌≤◌, ◌^◌, true, length, drop};
 ghost use Rattle.hp_model.specs.WordOperations.{bit_number};
 ghost use Rattle.hp_model.specs.Words.{number_of_bits};
@@ -80,7 +81,8 @@ impl Field {
     pub fn number(&self, bits: &[bool], at: usize) -> u64
         requires { at + free_width self.now ≤ length bits.now }
         ensures value { result ≡ number_in_field self.now (drop at bits.now) }
-        ensures bound { is_fixed_below (2 ^ self.now.width) self.now.fixed ≡ true → result < 2 ^ self.now.width }
+        ensures bound { is_fixed_below (2 ^ self.now.width) self.now.fixed
+            ≡ true → result < 2 ^ self.now.width }
     {
         match self.fixed {
             None => number_of_bits(&bits[at..at + self.width as usize]),

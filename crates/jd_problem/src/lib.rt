@@ -1,5 +1,11 @@
 //! Problems, which ask whether two routines agree, and the starts of their runs: what they are, and
 //! their texts. Nothing here takes memory.
+//!
+//! - Problems: `Problem`, with its `Extent` of memory, `Parts`, `Fixed`, `Assumed` and two `Routine`s.
+//! - Its starts: `Problem::in_range`, `allows`, `free_bits`, `start_of` some `Bits`, `blocks`.
+//! - Texts of problems: `read_problem` with the bytes that it takes, `write_problem`.
+//! - Texts of starts: `read_start` for a problem, `write_start`.
+//! - The first bad line: `ProblemFault` with its `ProblemCause`.
 #![tactic(auto)]
 
 mod faults;

@@ -1,5 +1,5 @@
-// The kinds of a problem's lines: their first words, their order, and what their numbers may be and
-// set. A line of a number is added here alone.
+// The kinds of a problem's lines in both versions: their first words, their order, and what their
+// numbers may be and set. A line of a number is added here alone.
 ghost use Rattle.std.specs.Prelude.{◌≡◌, ◌≤◌, true, None, replicate};
 ghost use Rattle.jd_model.specs.ProblemLines.{number, named_as, kind_name, headers, after_headers, kinds, is_of_version, kind_of, place_of, place_after, is_in_range, mode_of, base_of, memory_of, with_said};
 ghost use Rattle.jd_model.specs.ProblemTexts.{version_said};

@@ -1,4 +1,5 @@
-// What the lines of a problem say after their first word.
+// What the lines of a problem say after their first word, whatever stood before them. None means
+// that a line isn't formed as its kind says.
 ghost use Rattle.std.specs.Prelude.{◌≡◌, ◌≤◌, [], ◌∷◌, length, MatchOption, option_map, Some, None};
 ghost use Rattle.jd_text.specs.Words.{words_of};
 ghost use Rattle.jd_text.specs.Places.{words_at};
@@ -14,7 +15,8 @@ use jd_text::next_word;
 /// The word that stands alone from a place of a line on.
 pub fn only_word(line: &[u8], at: usize) -> Option<&[u8]>
     requires { at ≤ length line.now }
-    ensures { MatchOption result (only_word (words_at line.now at) ≡ None) (λ word. words_at line.now at ≡ word.now ∷ []) }
+    ensures { MatchOption result (only_word (words_at line.now at) ≡ None)
+        (λ word. words_at line.now at ≡ word.now ∷ []) }
 {
     let (word, end) = next_word(line, at)?;
     if next_word(line, end).is_some() {
@@ -32,7 +34,8 @@ pub fn one_number(line: &[u8]) -> Option<u64>
 
 /// A part and a number in hexadecimal.
 pub fn part_and_value(line: &[u8]) -> Option<(Part, u64)>
-    ensures { option_map (λ said. part_at (place_of said.0) said.1) result ≡ one_part_and_value (words_of line.now) }
+    ensures { option_map (λ said. part_at (place_of said.0) said.1) result
+        ≡ one_part_and_value (words_of line.now) }
 {
     let (name, end) = next_word(line, 0)?;
     let value = only_word(line, end)?;
@@ -57,7 +60,8 @@ pub fn assumption(line: &[u8]) -> Option<Assume>
 
 /// Any number of parts, and whether one of them stands there twice.
 pub fn observed_parts(line: &[u8]) -> Option<(Parts, bool)>
-    ensures { MatchOption result (parts_named (words_of line.now) ≡ None) (λ said. ObservesParts (words_of line.now) said.0 said.1) }
+    ensures { MatchOption result (parts_named (words_of line.now) ≡ None)
+        (λ said. ObservesParts (words_of line.now) said.0 said.1) }
 {
     let mut parts = Parts::none();
     let mut twice = false;

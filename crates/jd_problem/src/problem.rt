@@ -1,4 +1,5 @@
-//! Problems.
+//! The problem as callers hold it, with its ranges as facts of the type, and what it says of
+//! starts.
 ghost use Rattle.std.specs.Prelude.{◌≡◌, ◌≤◌, true, length};
 ghost use Rattle.hp_model.specs.State.{blocks_of};
 ghost use Rattle.jd_model.specs.Assembly.{IsRoutine};

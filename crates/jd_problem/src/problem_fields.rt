@@ -1,4 +1,5 @@
-// The fields of a problem's starts.
+// The fields that a problem gives to its starts: those of the content in a list, and the one that
+// all nibbles share.
 ghost use Rattle.std.specs.Prelude.{◌≡◌, ◌+◌, ◌*◌, ◌≤◌, true, length, drop, replicate};
 ghost use Rattle.jd_model.specs.Problems.{IsProblem, content_fields, nibble_fields, field, nibble_count, is_fixed_below, are_in_fields, free_widths, numbers_in};
 ghost use Rattle.jd_start.specs.Parts.{place_of};

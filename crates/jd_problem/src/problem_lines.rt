@@ -1,4 +1,5 @@
-// The lines of a problem: one function for each sort.
+// The lines of a problem, one function for each sort: it judges the line by what was read before,
+// and sets what the line says.
 ghost use Rattle.std.specs.Prelude.{◌≡◌, ◌<◌, ◌∷◌, [], ◌++◌, true, length, OnOk, IfErr, Some, None, slice_set};
 ghost use Rattle.jd_text.specs.Words.{words_of};
 ghost use Rattle.jd_text.specs.Readings.{Takes};
@@ -7,7 +8,7 @@ ghost use Rattle.jd_model.specs.ProblemLines.{place_of};
 ghost use Rattle.jd_model.specs.ProblemTexts.{assembly_line, with_problem_line};
 ghost use Rattle.jd_start.specs.Parts.{place_of as part_place, values_of};
 ghost use Rattle.jd_problem.specs.Problems.{problem_of};
-ghost use Rattle.jd_problem.specs.Readings.{reading_of, order_cause, is_number_line, is_section_word, line_of_kind};
+ghost use Rattle.jd_problem.specs.Readings.{reading_of, order_cause, is_number_line, is_section_word, TakesKind};
 
 use crate::line_kinds::{is_in_range, kind_of, place_after, place_of, set_number, version_said};
 use crate::line_words::{assumption, observed_parts, one_number, part_and_value};
@@ -37,7 +38,7 @@ fn check_order(due: u8, kind: LineKind) -> Result<(), ProblemCause>
 /// A line of one number.
 fn take_number(reading: &mut Reading, kind: LineKind, rest: &[u8]) -> Result<(), ProblemCause>
     requires { is_number_line kind ≡ true }
-    ensures { Takes (line_of_kind (reading_of reading.old) kind (words_of rest.now)) result (reading_of reading.new) }
+    ensures { TakesKind reading.old kind rest.now result reading.new }
 {
     let Some(n) = one_number(rest) else {
         return Err(ProblemCause::Syntax);
@@ -54,7 +55,7 @@ fn take_number(reading: &mut Reading, kind: LineKind, rest: &[u8]) -> Result<(),
 
 /// An `observe` line.
 fn take_observed(reading: &mut Reading, rest: &[u8]) -> Result<(), ProblemCause>
-    ensures { Takes (line_of_kind (reading_of reading.old) LineKind.Observe (words_of rest.now)) result (reading_of reading.new) }
+    ensures { TakesKind reading.old LineKind.Observe rest.now result reading.new }
 {
     let Some((parts, twice)) = observed_parts(rest) else {
         return Err(ProblemCause::Syntax);
@@ -71,14 +72,15 @@ fn take_observed(reading: &mut Reading, rest: &[u8]) -> Result<(), ProblemCause>
 /// Fixes a part.
 fn fix(problem: &mut Problem, part: Part, value: u64)
     requires { value < part_limit problem.old.size.bits (part_place part) }
-    ensures fixed { problem_of problem.new ≡ record (problem_of problem.old) { fixed = slice_set (values_of problem.old.fixed) (part_place part) (Some value) } }
+    ensures fixed { problem_of problem.new
+        ≡ record (problem_of problem.old) { fixed = slice_set (values_of problem.old.fixed) (part_place part) (Some value) } }
 {
     problem.fixed.set(part, value);
 }
 
 /// A `fix` line, which is well-formed only before `assume` lines and `first`.
 fn take_fixed(reading: &mut Reading, rest: &[u8]) -> Result<(), ProblemCause>
-    ensures { Takes (line_of_kind (reading_of reading.old) LineKind.Fix (words_of rest.now)) result (reading_of reading.new) }
+    ensures { TakesKind reading.old LineKind.Fix rest.now result reading.new }
 {
     let Some((part, value)) = part_and_value(rest) else {
         return Err(ProblemCause::Syntax);
@@ -102,14 +104,15 @@ fn take_fixed(reading: &mut Reading, rest: &[u8]) -> Result<(), ProblemCause>
 /// Adds an assumption.
 fn assume(problem: &mut Problem, assume: Assume)
     requires { length problem.old.assumed < MOST_ASSUMED }
-    ensures { problem_of problem.new ≡ record (problem_of problem.old) { assumed = problem.old.assumed ++ assume ∷ [] } }
+    ensures { problem_of problem.new
+        ≡ record (problem_of problem.old) { assumed = problem.old.assumed ++ assume ∷ [] } }
 {
     problem.assumed.push(assume);
 }
 
 /// An `assume` line, which is well-formed only before `first`.
 fn take_assumed(reading: &mut Reading, rest: &[u8]) -> Result<(), ProblemCause>
-    ensures { Takes (line_of_kind (reading_of reading.old) LineKind.Assume (words_of rest.now)) result (reading_of reading.new) }
+    ensures { TakesKind reading.old LineKind.Assume rest.now result reading.new }
 {
     let Some(assumption) = assumption(rest) else {
         return Err(ProblemCause::Syntax);
@@ -130,7 +133,7 @@ fn take_assumed(reading: &mut Reading, rest: &[u8]) -> Result<(), ProblemCause>
 /// A line of a section word alone.
 fn take_section(reading: &mut Reading, kind: LineKind, rest: &[u8]) -> Result<(), ProblemCause>
     requires { is_section_word kind ≡ true }
-    ensures { Takes (line_of_kind (reading_of reading.old) kind (words_of rest.now)) result (reading_of reading.new) }
+    ensures { TakesKind reading.old kind rest.now result reading.new }
 {
     if next_word(rest, 0).is_some() {
         return Err(ProblemCause::Syntax);
@@ -142,7 +145,7 @@ fn take_section(reading: &mut Reading, kind: LineKind, rest: &[u8]) -> Result<()
 
 /// A line whose first word is of a kind, by the words that follow.
 fn take_kind(reading: &mut Reading, kind: LineKind, rest: &[u8]) -> Result<(), ProblemCause>
-    ensures { Takes (line_of_kind (reading_of reading.old) kind (words_of rest.now)) result (reading_of reading.new) }
+    ensures { TakesKind reading.old kind rest.now result reading.new }
 {
     match kind {
         LineKind::Observe => take_observed(reading, rest),
@@ -155,7 +158,8 @@ fn take_kind(reading: &mut Reading, kind: LineKind, rest: &[u8]) -> Result<(), P
 
 /// A line of a routine.
 fn take_assembly(reading: &mut Reading, line: &[u8]) -> Result<(), ProblemCause>
-    ensures { Takes (assembly_line (reading_of reading.old) (words_of line.now)) result (reading_of reading.new) }
+    ensures { Takes (assembly_line (reading_of reading.old) (words_of line.now))
+        result (reading_of reading.new) }
 {
     if reading.is_before_first() {
         return Err(ProblemCause::Syntax);
@@ -174,7 +178,8 @@ fn take_assembly(reading: &mut Reading, line: &[u8]) -> Result<(), ProblemCause>
 /// One more line of a problem, which has no line feed. A line without words says nothing. What the
 /// reading is after an `Err` isn't said.
 pub fn take_problem_line(reading: &mut Reading, line: &[u8]) -> Result<(), ProblemCause>
-    ensures { Takes (with_problem_line (reading_of reading.old) (words_of line.now)) result (reading_of reading.new) }
+    ensures { Takes (with_problem_line (reading_of reading.old) (words_of line.now))
+        result (reading_of reading.new) }
 {
     let Some((word, end)) = next_word(line, 0) else {
         return Ok(());

@@ -1,4 +1,4 @@
-// The problem at the beginning of a text.
+// The problem at the beginning of a text, by the reader of lines over the lines of a problem.
 ghost use Rattle.std.specs.Prelude.{◌≡◌, ◌+◌, ◌<◌, ◌^◌, length, Err, IfOk, IfErr};
 ghost use Rattle.jd_model.specs.ProblemTexts.{problem_of as problem_of_text};
 ghost use Rattle.jd_problem.specs.Problems.{problem_of};

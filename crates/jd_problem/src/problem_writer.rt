@@ -1,4 +1,4 @@
-//! The canonical text of a problem.
+//! The canonical text of a problem, in one text of fixed room that is handed to the sink at once.
 ghost use Rattle.std.specs.Prelude.{◌≡◌, ℕ, ◌+◌, ◌≤◌, ◌∷◌, [], ◌++◌, length, map, take, codes, decimal, Ok, OnOk, if◌then◌else◌};
 ghost use Rattle.std.specs.Io.KnownBytes.{Appends};
 ghost use Rattle.arrayvec.specs.ArrayString.{array_string_len};
@@ -54,7 +54,8 @@ fn push_names(text: &mut ArrayString<ROOM>, parts: &Parts)
 /// Adds the line of the observed parts.
 fn push_observed(text: &mut ArrayString<ROOM>, observed: &Parts)
     requires { array_string_len text.old + 47 ≤ ROOM }
-    ensures text { text.new.bytes ≡ text.old.bytes ++ line (codes "observe" ∷ chosen (marks_of observed.now) part_names) }
+    ensures text { text.new.bytes ≡ text.old.bytes
+        ++ line (codes "observe" ∷ chosen (marks_of observed.now) part_names) }
     ensures len { array_string_len text.new ≤ array_string_len text.old + 47 }
 {
     text.push_str("observe");
@@ -79,7 +80,8 @@ fn push_fix(text: &mut ArrayString<ROOM>, name: &str, value: Option<u64>)
 /// Adds the lines of the parts that are fixed.
 fn push_fixed(text: &mut ArrayString<ROOM>, fixed: &Fixed)
     requires { array_string_len text.old + 312 ≤ ROOM }
-    ensures text { text.new.bytes ≡ text.old.bytes ++ written (fix_lines part_names (values_of fixed.now)) }
+    ensures text { text.new.bytes ≡ text.old.bytes
+        ++ written (fix_lines part_names (values_of fixed.now)) }
     ensures len { array_string_len text.new ≤ array_string_len text.old + 312 }
 {
     for place in 0..PART_COUNT {
@@ -137,7 +139,8 @@ fn version_number(version: Version) -> u64
 /// Adds the lines from that of the version to that of the base.
 fn push_machine(text: &mut ArrayString<ROOM>, version: Version, problem: &Problem)
     requires { array_string_len text.old + 107 ≤ ROOM }
-    ensures text { text.new.bytes ≡ text.old.bytes ++ written (machine_lines version (problem_of problem.now)) }
+    ensures text { text.new.bytes ≡ text.old.bytes
+        ++ written (machine_lines version (problem_of problem.now)) }
     ensures len { array_string_len text.new ≤ array_string_len text.old + 107 }
 {
     push_decimal_line(text, "problem", version_number(version));
@@ -172,7 +175,8 @@ fn push_bounds(text: &mut ArrayString<ROOM>, problem: &Problem)
 /// Adds the lines before those of the fixed parts.
 fn push_headers(text: &mut ArrayString<ROOM>, problem: &Problem)
     requires { array_string_len text.old + 264 ≤ ROOM }
-    ensures text { text.new.bytes ≡ text.old.bytes ++ written (header_lines (version (problem_of problem.now)) (problem_of problem.now)) }
+    ensures text { text.new.bytes ≡ text.old.bytes
+        ++ written (header_lines (version (problem_of problem.now)) (problem_of problem.now)) }
     ensures len { array_string_len text.new ≤ array_string_len text.old + 264 }
 {
     let version = version(problem);
@@ -239,8 +243,10 @@ fn problem_text(problem: &Problem) -> ArrayString<ROOM>
 /// assumptions, and the two routines, all on lines of their own with one blank between two words. It
 /// is of version 1 exactly where the memory is standard and nothing is assumed.
 pub fn write_problem<K: Sink>(problem: &Problem, sink: &mut K) -> Result<(), Failed>
-    ensures whole { OnOk result (Appends (K.written sink.old) (K.written sink.new) (problem_text (problem_of problem.now))) }
-    ensures part { (n : ℕ) × Appends (K.written sink.old) (K.written sink.new) (take n (problem_text (problem_of problem.now))) }
+    ensures whole { OnOk result (Appends (K.written sink.old) (K.written sink.new)
+        (problem_text (problem_of problem.now))) }
+    ensures part { (n : ℕ) × Appends (K.written sink.old) (K.written sink.new)
+        (take n (problem_text (problem_of problem.now))) }
     ensures cause { HasCause (K.faults sink.old) (K.faults sink.new) result }
     ensures reads_back { problem_of_text (problem_text (problem_of problem.now))
         ≡ Ok (problem_of problem.now, length (problem_lines (problem_of problem.now))) }

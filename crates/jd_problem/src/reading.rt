@@ -1,4 +1,5 @@
-// A problem as far as it is read.
+// A problem as far as it is read. Where the reading stands is the place of the line that is due;
+// the other files ask for it by name.
 ghost use Rattle.std.specs.Prelude.{◌≡◌, ◌<◌, ◌≤◌, false, None, replicate};
 ghost use Rattle.jd_start.specs.Parts.{marks_of, values_of};
 ghost use Rattle.jd_start.specs.declared.parts.TheConstants.{PART_COUNT};

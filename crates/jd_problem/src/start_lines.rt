@@ -1,12 +1,13 @@
-// The lines of a start.
+// The lines of a start, each judged by the problem as it comes; the last one also by the
+// assumptions.
 ghost use Rattle.std.specs.Prelude.{◌≡◌, ◌+◌, ◌<◌, ◌≤◌, ◌∷◌, [], true, length, map, slice_index_or, Some};
 ghost use Rattle.jd_text.specs.Readings.{Takes};
 ghost use Rattle.jd_text.specs.Words.{words_of};
 ghost use Rattle.jd_text.specs.Places.{words_at};
 ghost use Rattle.jd_text.specs.Digits.{digit_value, are_digits};
-ghost use Rattle.jd_model.specs.StartTexts.{line_names, no_numbers, spelled_number, spelled_flags, spelled_nibbles, spelled, filled_up, with_numbers, with_start_line};
+ghost use Rattle.jd_model.specs.StartTexts.{line_names, no_numbers, spelled_number, spelled_flags, spelled_nibbles, spelled, filled_up, with_start_line};
 ghost use Rattle.jd_problem.specs.Problems.{problem_of};
-ghost use Rattle.jd_problem.specs.StartReadings.{content_given};
+ghost use Rattle.jd_problem.specs.StartReadings.{content_given, TakesNumbers};
 
 use crate::fields::are_in_fields;
 use crate::line_words::only_word;
@@ -46,8 +47,9 @@ fn take_numbers(
 ) -> Result<(), ProblemCause>
     requires from { 1 ≤ reading.old.given }
     requires to { reading.old.given ≤ 7 }
-    requires count { content_given reading.old.given + length numbers.now ≡ content_given (reading.old.given + 1) }
-    ensures { Takes (with_numbers (problem_of problem.now) reading.old (Some numbers.now)) result reading.new }
+    requires count { content_given reading.old.given + length numbers.now
+        ≡ content_given (reading.old.given + 1) }
+    ensures { TakesNumbers problem.now reading.old (Some numbers.now) result reading.new }
 {
     let first = usize::from(reading.given()) - 1;
     let fields = content_fields(problem);
@@ -120,7 +122,8 @@ fn take_nibbles(
 ) -> Result<(), ProblemCause>
     requires line { reading.old.given ≡ 8 }
     requires digits { are_digits 16 word.now ≡ true }
-    ensures { Takes (with_numbers (problem_of problem.now) reading.old (Some (map digit_value word.now))) result reading.new }
+    ensures { TakesNumbers problem.now reading.old (Some (map digit_value word.now))
+        result reading.new }
 {
     let count = nibble_count(problem);
     if word.len() > usize::from(count) {
@@ -144,7 +147,8 @@ fn take_begin(
 ) -> Result<(), ProblemCause>
     requires within { at ≤ length line.now }
     requires line { reading.old.given ≡ 0 }
-    ensures { Takes (with_numbers (problem_of problem.now) reading.old (no_numbers (words_at line.now at))) result reading.new }
+    ensures { TakesNumbers problem.now reading.old (no_numbers (words_at line.now at))
+        result reading.new }
 {
     if next_word(line, at).is_some() {
         return Err(ProblemCause::Syntax);
@@ -162,7 +166,8 @@ fn take_end(
 ) -> Result<(), ProblemCause>
     requires within { at ≤ length line.now }
     requires line { reading.old.given ≡ 9 }
-    ensures { Takes (with_numbers (problem_of problem.now) reading.old (no_numbers (words_at line.now at))) result reading.new }
+    ensures { TakesNumbers problem.now reading.old (no_numbers (words_at line.now at))
+        result reading.new }
 {
     if next_word(line, at).is_some() {
         return Err(ProblemCause::Syntax);
@@ -184,7 +189,8 @@ fn take_number(
     requires within { at ≤ length line.now }
     requires from { 1 ≤ reading.old.given }
     requires to { reading.old.given ≤ 6 }
-    ensures { Takes (with_numbers (problem_of problem.now) reading.old (spelled_number (words_at line.now at))) result reading.new }
+    ensures { TakesNumbers problem.now reading.old (spelled_number (words_at line.now at))
+        result reading.new }
 {
     let Some(word) = only_word(line, at) else {
         return Err(ProblemCause::Syntax);
@@ -204,7 +210,8 @@ fn take_flags(
 ) -> Result<(), ProblemCause>
     requires within { at ≤ length line.now }
     requires line { reading.old.given ≡ 7 }
-    ensures { Takes (with_numbers (problem_of problem.now) reading.old (spelled_flags (words_at line.now at))) result reading.new }
+    ensures { TakesNumbers problem.now reading.old (spelled_flags (words_at line.now at))
+        result reading.new }
 {
     let Some(word) = only_word(line, at) else {
         return Err(ProblemCause::Syntax);
@@ -224,7 +231,8 @@ fn take_memory(
 ) -> Result<(), ProblemCause>
     requires within { at ≤ length line.now }
     requires line { reading.old.given ≡ 8 }
-    ensures { Takes (with_numbers (problem_of problem.now) reading.old (spelled_nibbles (words_at line.now at))) result reading.new }
+    ensures { TakesNumbers problem.now reading.old (spelled_nibbles (words_at line.now at))
+        result reading.new }
 {
     match next_word(line, at) {
         None => take_nibbles(problem, reading, &[]),
@@ -246,7 +254,7 @@ fn take_words(
 ) -> Result<(), ProblemCause>
     requires within { at ≤ length line.now }
     requires line { reading.old.given < 10 }
-    ensures { Takes (with_numbers (problem_of problem.now) reading.old (spelled reading.old.given (words_at line.now at))) result reading.new }
+    ensures { TakesNumbers problem.now reading.old (spelled reading.old.given (words_at line.now at)) result reading.new }
 {
     match reading.given() {
         0 => take_begin(problem, reading, line, at),
@@ -263,7 +271,8 @@ pub fn take_start_line(
     reading: &mut StartReading,
     line: &[u8],
 ) -> Result<(), ProblemCause>
-    ensures { Takes (with_start_line (problem_of problem.now) reading.old (words_of line.now)) result reading.new }
+    ensures { Takes (with_start_line (problem_of problem.now) reading.old (words_of line.now))
+        result reading.new }
 {
     match next_word(line, 0) {
         None => Ok(()),

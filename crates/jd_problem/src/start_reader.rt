@@ -1,4 +1,4 @@
-// The text of a start.
+// The start that a text says, by the reader of lines over the lines of a start.
 ghost use Rattle.std.specs.Prelude.{◌≡◌, ◌+◌, ◌<◌, ◌^◌, true, length, Ok, Err, IfOk, IfErr};
 ghost use Rattle.jd_model.specs.Problems.{allows};
 ghost use Rattle.jd_model.specs.StartTexts.{start_of_text};
@@ -46,9 +46,11 @@ impl TakesLines for StartLines<'_> {
 /// skipped.
 pub fn read_start(problem: &Problem, bytes: &[u8]) -> Result<Start, ProblemFault>
     requires { length bytes.now + 1 < 2 ^ 32 }
-    ensures start { IfOk result (λ start. start_of_text (problem_of problem.now) bytes.now ≡ Ok (start_data start)) }
+    ensures start { IfOk result (λ start. start_of_text (problem_of problem.now) bytes.now
+        ≡ Ok (start_data start)) }
     ensures allowed { IfOk result (λ start. allows (problem_of problem.now) (start_data start) ≡ true) }
-    ensures fault { IfErr result (λ fault. start_of_text (problem_of problem.now) bytes.now ≡ Err (fault.line, fault.cause)) }
+    ensures fault { IfErr result (λ fault. start_of_text (problem_of problem.now) bytes.now
+        ≡ Err (fault.line, fault.cause)) }
 {
     let mut lines = StartLines {
         problem,

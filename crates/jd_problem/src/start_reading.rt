@@ -1,4 +1,4 @@
-// A start as far as it is read.
+// A start as far as it is read: its numbers in order, until they are made a start.
 ghost use Rattle.std.specs.Prelude.{◌≡◌, suc, ◌+◌, ◌<◌, ◌≤◌, ◌++◌, length};
 ghost use Rattle.jd_model.specs.Assumptions.{meets};
 ghost use Rattle.jd_model.specs.Problems.{start_with};
@@ -53,8 +53,13 @@ impl StartReading {
     /// Takes a line with numbers other than nibbles, or with none.
     pub fn take_numbers(&mut self, numbers: &[u64])
         requires line { self.old.given < 10 }
-        requires count { content_given self.old.given + length numbers.now ≡ content_given (self.old.given + 1) }
-        ensures { self.new ≡ record { given = suc self.old.given; numbers = self.old.numbers ++ numbers.now } }
+        requires count { content_given self.old.given + length numbers.now
+            ≡ content_given (self.old.given + 1) }
+        ensures { self.new ≡ record {
+          given = suc self.old.given;
+          numbers = self.old.numbers
+              ++ numbers.now;
+        } }
     {
         self.given += 1;
         self.content.try_extend_from_slice(numbers).unwrap();

@@ -1,4 +1,4 @@
-//! The canonical text of a start.
+//! The canonical text of a start, in one text of fixed room that is handed to the sink at once.
 ghost use Rattle.std.specs.Prelude.{◌≡◌, ℕ, ◌+◌, ◌<◌, ◌≤◌, ◌∷◌, [], ◌++◌, true, take, codes, Ok, OnOk};
 ghost use Rattle.std.specs.Io.KnownBytes.{Appends};
 ghost use Rattle.arrayvec.specs.ArrayString.{array_string_len};
@@ -75,10 +75,13 @@ fn start_text(start: &Start) -> ArrayString<ROOM>
 /// one that isn't zero.
 pub fn write_start<K: Sink>(problem: &Problem, start: &Start, sink: &mut K) -> Result<(), Failed>
     requires { allows (problem_of problem.now) (start_data start.now) ≡ true }
-    ensures whole { OnOk result (Appends (K.written sink.old) (K.written sink.new) (start_text (start_data start.now))) }
-    ensures part { (n : ℕ) × Appends (K.written sink.old) (K.written sink.new) (take n (start_text (start_data start.now))) }
+    ensures whole { OnOk result (Appends (K.written sink.old) (K.written sink.new)
+        (start_text (start_data start.now))) }
+    ensures part { (n : ℕ) × Appends (K.written sink.old) (K.written sink.new)
+        (take n (start_text (start_data start.now))) }
     ensures cause { HasCause (K.faults sink.old) (K.faults sink.new) result }
-    ensures reads_back { start_of_text (problem_of problem.now) (start_text (start_data start.now)) ≡ Ok (start_data start.now) }
+    ensures reads_back { start_of_text (problem_of problem.now) (start_text (start_data start.now))
+        ≡ Ok (start_data start.now) }
 {
     write_whole(sink, start_text(start).as_str().as_bytes())
 }

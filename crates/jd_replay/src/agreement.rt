@@ -1,4 +1,4 @@
-// Whether two runs are seen the same.
+// Whether two runs are seen the same, part by part, without the text of either.
 ghost use Rattle.std.specs.Prelude.{◌≡◌, ◌<◌, bytes_eq};
 ghost use Rattle.jd_model.specs.Seen.{same_end, agree_on};
 ghost use Rattle.jd_start.specs.Parts.{marks_of};

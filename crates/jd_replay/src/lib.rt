@@ -1,5 +1,9 @@
 //! The runs of a problem's two routines from a start, what is seen of them, and whether they agree.
 //! Nothing here takes memory.
+//!
+//! - Running: `read_start` or `write_start` a start, `replay` both routines from it.
+//! - Judging: `agree` on two that were `Seen`.
+//! - Writing: `write_seen` with the routine's name, or `seen_text` without it.
 #![tactic(auto)]
 
 mod agreement;

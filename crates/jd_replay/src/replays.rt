@@ -1,4 +1,5 @@
-// The two runs from a start.
+// The two runs from a start: a machine is made of each routine with the start in it, run, and its
+// final state kept.
 ghost use Rattle.std.specs.Prelude.{◌≡◌, ◌≤◌, ◌*◌, ◌^◌, ◌<◌, true, length};
 ghost use Rattle.hp_core.specs.Machines.{data_of};
 ghost use Rattle.jd_model.specs.Problems.{allows, blocks};
@@ -63,8 +64,10 @@ fn seen_of_routine(problem: &Problem, routine: &Routine, start: &Start) -> Seen
 /// Runs both routines from a start in the problem's memory, each for at most the problem's steps.
 pub fn replay(problem: &Problem, start: &Start) -> (Seen, Seen)
     requires { allows (problem_of problem.now) (start_data start.now) ≡ true }
-    ensures first { seen_of result.0 ≡ seen (problem_of problem.now) problem.now.first (start_data start.now) }
-    ensures second { seen_of result.1 ≡ seen (problem_of problem.now) problem.now.second (start_data start.now) }
+    ensures first { seen_of result.0
+        ≡ seen (problem_of problem.now) problem.now.first (start_data start.now) }
+    ensures second { seen_of result.1
+        ≡ seen (problem_of problem.now) problem.now.second (start_data start.now) }
 {
     (
         seen_of_routine(problem, &problem.first, start),

@@ -1,4 +1,4 @@
-//! What is seen of a run.
+//! What is kept of a run: that it is late, or its end with the final state.
 use hp_model::End;
 use jd_start::Start;
 

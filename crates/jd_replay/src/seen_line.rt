@@ -1,4 +1,4 @@
-//! The line of what is seen of a run.
+//! The line of what is seen of a run, in words of the same form as a start's.
 ghost use Rattle.std.specs.Prelude.{◌≡◌, ℕ, ◌+◌, ◌≤◌, ◌∷◌, [], ◌++◌, length, take, OnOk, if◌then◌else◌};
 ghost use Rattle.std.specs.Io.KnownBytes.{Appends};
 ghost use Rattle.arrayvec.specs.ArrayString.{array_string_len};
@@ -48,7 +48,8 @@ fn push_end(text: &mut ArrayString<ROOM>, end: End)
 /// Adds a part's name and number, if it is shown.
 fn push_part(text: &mut ArrayString<ROOM>, shown: bool, name: &str, n: u64)
     requires { array_string_len text.old + length name.now + 18 ≤ ROOM }
-    ensures text { text.new.bytes ≡ text.old.bytes ++ phrases (if shown then (name.now ∷ hexadecimal n ∷ []) ∷ [] else []) }
+    ensures text { text.new.bytes ≡ text.old.bytes
+        ++ phrases (if shown then (name.now ∷ hexadecimal n ∷ []) ∷ [] else []) }
     ensures len { array_string_len text.new ≤ array_string_len text.old + length name.now + 18 }
 {
     if shown {
@@ -60,7 +61,8 @@ fn push_part(text: &mut ArrayString<ROOM>, shown: bool, name: &str, n: u64)
 /// Adds the words of the register nibbles, if they are shown.
 fn push_memory(text: &mut ArrayString<ROOM>, shown: bool, nibbles: &Nibbles)
     requires { array_string_len text.old + MOST_NIBBLES + 3 ≤ ROOM }
-    ensures text { text.new.bytes ≡ text.old.bytes ++ phrases (if shown then memory_words nibbles.now ∷ [] else []) }
+    ensures text { text.new.bytes ≡ text.old.bytes
+        ++ phrases (if shown then memory_words nibbles.now ∷ [] else []) }
     ensures len { array_string_len text.new ≤ array_string_len text.old + MOST_NIBBLES + 3 }
 {
     if shown {
@@ -72,7 +74,8 @@ fn push_memory(text: &mut ArrayString<ROOM>, shown: bool, nibbles: &Nibbles)
 /// Adds the words of the observed parts.
 fn push_parts(text: &mut ArrayString<ROOM>, observed: &Parts, start: &Start)
     requires { array_string_len text.old + 1461 ≤ ROOM }
-    ensures text { text.new.bytes ≡ text.old.bytes ++ phrases (chosen (marks_of observed.now) (part_words (start_data start.now))) }
+    ensures text { text.new.bytes ≡ text.old.bytes
+        ++ phrases (chosen (marks_of observed.now) (part_words (start_data start.now))) }
     ensures len { array_string_len text.new ≤ array_string_len text.old + 1461 }
 {
     let numbers = content_numbers(start);
@@ -90,7 +93,8 @@ fn push_parts(text: &mut ArrayString<ROOM>, observed: &Parts, start: &Start)
 /// Adds the words of what is seen.
 fn push_seen(text: &mut ArrayString<ROOM>, observed: &Parts, seen: &Seen)
     requires { array_string_len text.old + 1488 ≤ ROOM }
-    ensures text { text.new.bytes ≡ text.old.bytes ++ spaced (seen_words (marks_of observed.now) (seen_of seen.now)) }
+    ensures text { text.new.bytes ≡ text.old.bytes
+        ++ spaced (seen_words (marks_of observed.now) (seen_of seen.now)) }
     ensures len { array_string_len text.new ≤ array_string_len text.old + 1488 }
 {
     match seen {
@@ -119,8 +123,10 @@ pub fn write_seen<K: Sink>(
     seen: &Seen,
     sink: &mut K,
 ) -> Result<(), Failed>
-    ensures whole { OnOk result (Appends (K.written sink.old) (K.written sink.new) (seen_line (problem_of problem.now) name.now (seen_of seen.now))) }
-    ensures part { (n : ℕ) × Appends (K.written sink.old) (K.written sink.new) (take n (seen_line (problem_of problem.now) name.now (seen_of seen.now))) }
+    ensures whole { OnOk result (Appends (K.written sink.old) (K.written sink.new)
+        (seen_line (problem_of problem.now) name.now (seen_of seen.now))) }
+    ensures part { (n : ℕ) × Appends (K.written sink.old) (K.written sink.new)
+        (take n (seen_line (problem_of problem.now) name.now (seen_of seen.now))) }
     ensures cause { HasCause (K.faults sink.old) (K.faults sink.new) result }
 {
     write_whole(sink, name.as_bytes())?;

@@ -1,4 +1,5 @@
-//! The words of an assumption.
+//! The names of what an assumption says, read and written; the order of its words is its reader's
+//! and its writer's.
 ghost use Rattle.std.specs.Prelude.{◌≡◌, ◌≤◌, length};
 ghost use Rattle.jd_model.specs.ProblemLines.{num_part_name, num_part_named, relation_name, relation_named, against_named};
 

@@ -1,4 +1,5 @@
-//! Assumptions on starts: lists of them, and whether they hold of a start.
+//! What is assumed of starts: lists of fixed room, and whether they hold. They speak of a start's
+//! content alone, so the nibbles play no part in the test.
 ghost use Rattle.std.specs.Prelude.{◌≡◌, ℕ, List, ◌<◌, ◌≤◌, [], ◌∷◌, ◌++◌, length};
 ghost use Rattle.hp_words.specs.Contents.{data_of};
 ghost use Rattle.jd_model.specs.Assumptions.{part_value, holds, meets};

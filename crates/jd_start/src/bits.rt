@@ -1,4 +1,5 @@
-//! Bits: as numbers, and lists of them.
+//! The free bits of a start as a list of fixed room, and a bit as a number. How they are laid out
+//! among a start's numbers is the problem's.
 ghost use Rattle.std.specs.Prelude.{◌≡◌, ◌<◌, ◌≤◌, [], ◌∷◌, ◌++◌, length};
 ghost use Rattle.hp_model.specs.WordOperations.{bit_number};
 

@@ -1,5 +1,11 @@
-//! Starts of a run: their parts, their numbers and nibbles, and how these are written. Nothing here
-//! takes memory.
+//! Starts of a run: their parts, their numbers and nibbles, what may be assumed of them, and how these
+//! are written. Nothing here takes memory.
+//!
+//! - Starts: `Start` with its `Nibbles`; `content_numbers`, `start_with` and `content_with` as numbers.
+//! - Parts: `Part`, `Parts` that are observed, `Fixed` values; `part_at`, `part_name`.
+//! - Assumptions: `Assumed`, `meets`; their words by `num_part_named`, `relation_named`, `against_named`.
+//! - Room: `register_nibbles` of a memory, `Bits` that are free.
+//! - Writing: `push_word`, `push_number`, `push_nibbles`, and whole lines.
 #![tactic(auto)]
 
 mod assumption_words;

@@ -1,4 +1,5 @@
-// The register nibbles as they are written: one digit each, without the zeros at the end.
+// The register nibbles as a start and the line of a run show them: one digit each, without the
+// zeros at the end. Both writers call this one.
 ghost use Rattle.std.specs.Prelude.{◌≡◌, ◌+◌, ◌<◌, ◌≤◌, ◌++◌, All, length, map, take, true};
 ghost use Rattle.std.specs.Fmt.{digit_glyph};
 ghost use Rattle.arrayvec.specs.ArrayString.{array_string_len};

@@ -1,4 +1,5 @@
-//! Register nibbles: how many there are, and lists of them.
+//! Register nibbles as a list of fixed room, that of the larger memory, and how many a memory has
+//! beside its program.
 ghost use Rattle.std.specs.Prelude.{◌≡◌, ◌*◌, ◌<◌, ◌≤◌, [], ◌∷◌, ◌++◌, length};
 ghost use Rattle.hp_model.specs.State.{memory_bytes, register_nibbles};
 ghost use Rattle.jd_start.specs.Nibbles.{AreNibbles};

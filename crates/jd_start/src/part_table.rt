@@ -1,4 +1,5 @@
-//! The parts of a start in their order, and their names.
+//! The parts of a start in their order, and their names: the one table by which they are read and
+//! written.
 ghost use Rattle.std.specs.Prelude.{◌≡◌, ◌<◌, ◌≤◌, [], length, slice_index_or, option_map};
 ghost use Rattle.jd_model.specs.ProblemLines.{part_names, part_named};
 ghost use Rattle.jd_start.specs.Parts.{place_of};

@@ -1,4 +1,5 @@
-//! The parts of a start, which may be observed and fixed.
+//! The parts of a start one by one, which of them are observed, and at what they are fixed. A part
+//! more is a field here and a row of the table of parts.
 ghost use Rattle.std.specs.Prelude.{◌≡◌, length};
 
 use crate::bits::bit_number;

@@ -1,4 +1,4 @@
-//! Starts.
+//! What a run begins with, apart from the problem that it belongs to.
 use crate::nibbles::Nibbles;
 use hp_words::Content;
 

@@ -1,4 +1,5 @@
-// A start as a list of numbers.
+// A start's content as the list of its numbers and back, since fields, bits and texts go by that
+// list.
 ghost use Rattle.std.specs.Prelude.{◌≡◌, ℕ, List, ◌++◌, length};
 ghost use Rattle.hp_words.specs.Contents.{data_of};
 ghost use Rattle.jd_model.specs.Problems.{content_numbers, start_with};

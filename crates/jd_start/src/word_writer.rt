@@ -1,4 +1,5 @@
-// Words and lines, added to a text.
+// Words and lines of a name and a number, added to a text of any room. Every writer of problems,
+// starts and runs stands on them.
 ghost use Rattle.std.specs.Prelude.{◌≡◌, ◌+◌, ◌≤◌, ◌∷◌, [], ◌++◌, length, decimal};
 ghost use Rattle.arrayvec.specs.ArrayString.{array_string_len};
 ghost use Rattle.jd_text.specs.Words.{line};
