@@ -1,0 +1,11 @@
+pub mod Paths
+pub mod Trees
+pub mod Clauses
+pub mod Leaves
+pub mod Outcomes
+pub mod Nodes
+pub mod Walks
+pub mod Climbs
+pub mod Checks
+pub mod Laws
+pub mod WorkedBooks
