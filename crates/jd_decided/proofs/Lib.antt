@@ -1,0 +1,4 @@
+pub mod Growing
+pub mod Decided
+pub mod Values
+pub mod Refuted
