@@ -38,7 +38,7 @@ use Rattle.jd_prover.proofs.Running.{value-grows}
 use Rattle.jd_prover.proofs.Stored.{reasons-weaker, same_clauses, stored-more, stored-push}
 use Rattle.jd_prover.proofs.Taking.{covered-grows}
 
-negated-back : (ds : List ℤ) (l : ℤ) → IsIn (negated ds) l → IsIn ds (neg_ℤ l)
+pub negated-back : (ds : List ℤ) (l : ℤ) → IsIn (negated ds) l → IsIn ds (neg_ℤ l)
 negated-back [] l is = absurd (false_is_not_true false refl is)
 negated-back (e ∷ ds) l is = elim (has-cases (neg_ℤ e) (negated ds) l is) [
   | inl f ↦ (let P : ℤ → Type 0 = λ z. IsIn (e ∷ ds) z in subst P (sym (neg_ℤ-neg_ℤ e) ∙ ap neg_ℤ f) (has-here e ds))

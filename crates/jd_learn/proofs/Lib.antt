@@ -1,0 +1,5 @@
+pub mod Growing
+pub mod Teaching
+pub mod Analysing
+pub mod Turning
+pub mod Lessons

@@ -1,0 +1,4 @@
+pub mod Learning
+pub mod Taught
+pub mod Teaching
+pub mod Outcomes

@@ -1,0 +1,13 @@
+//! A search for a refutation or a model that learns from each conflict.
+//!
+//! The search: `prove`, which answers as `jd_prover::prove` does.
+#![tactic(auto)]
+
+pub mod analysis;
+pub mod learning;
+pub mod order;
+pub mod restarts;
+pub mod search;
+
+pub use jd_propagate::Proof;
+pub use search::prove;
