@@ -1,0 +1,24 @@
+use Rattle.std.proofs.Common.{◌≡◌, ◌+◌, ◌-◌, ◌*◌, ◌/◌, ◌%◌, ◌^◌, ◌<◌, ◌≤◌, length, sym, ap, ◌∙◌, not, refl, subst, arith}
+use Rattle.jd_circuit.specs.Meaning.{lit_value}
+use Rattle.jd_circuit.specs.Net.{variables}
+use Rattle.jd_circuit.proofs.Values.{solves_before}
+use Rattle.jd_circuit.proofs.SimpleGates.{value-opposite}
+use Rattle.jd_vectors.specs.Number.{number}
+use Rattle.jd_vectors.proofs.Kept.{all_of, one_of, grows_trans, IsLit-opposite}
+use Rattle.hp_model.specs.Words.{value, low, magnitude}
+use Rattle.hp_model.specs.WordOperations as rows
+use Rattle.jd_rows.specs.Answers.{AnswerFits, IsWord}
+use Rattle.jd_rows.proofs.SignedRows.{remainder_row}
+use Rattle.jd_rows.proofs.products.remainder.Goals as goal
+
+pub returns-clause-fits : goal.returns-clause-fits
+returns-clause-fits g c = record {
+  pattern = record { size = c.in_ok-pattern.ensures.length ∙ c.len-size.ensures.len; inside = c.in_ok-pattern.ensures.of };
+  carry = tt;
+  range = tt;
+}
+
+pub returns-clause-meaning : goal.returns-clause-meaning
+returns-clause-meaning g c = λ val s nonzero.
+    let s0 = solves_before _ _ val c.in_ok-pattern.ensures.grows s in
+    remainder_row _ _ _ _ _ _ _ _ _ _ _ c.len-size.ensures.len c.requires.length (c.in_ok-d.ensures.value val s0 nonzero) (c.in_ok-pattern.ensures.number val s)
