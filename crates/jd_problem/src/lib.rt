@@ -3,7 +3,8 @@
 //!
 //! - Problems: `Problem`, with its `Extent` of memory, `Parts`, `Fixed`, `Assumed` and two `Routine`s.
 //! - Its starts: `Problem::in_range`, `allows`, `free_bits`, `start_of` some `Bits`, `blocks`.
-//! - Texts of problems: `read_problem` with the bytes that it takes, `write_problem`.
+//! - Texts of problems: `read_problem` with the bytes that it takes, `write_problem`; `ProblemReader` for
+//!   a problem whose lines come one after another.
 //! - Texts of starts: `read_start` for a problem, `write_start`.
 //! - The first bad line: `ProblemFault` with its `ProblemCause`.
 #![tactic(auto)]
@@ -32,5 +33,6 @@ pub use jd_start::{Assumed, Bits, Fixed, Nibbles, Part, Parts, Start};
 pub use problem::Problem;
 pub use problem_reader::read_problem;
 pub use problem_writer::write_problem;
+pub use reading::Reading as ProblemReader;
 pub use start_reader::read_start;
 pub use start_writer::write_start;
