@@ -60,24 +60,26 @@ pub record IsSoFar (old now : LineState) (before after : Option (List ℕ)) : Ty
   pub all : old.held ++ bytes ≡ now.line ++ now.held
   pub clear : All NoLineFeed now.line
 
+pub apart : (b : Bool) → b ≡ false → b ≡ true → ⊥
+apart true e f = cc
+apart false e f = cc
+
 -- the line has ended by a line feed
-pub fed-advances : (old now new : LineState) (before after : Option (List ℕ)) → IsSoFar old now before after → IsHeldTaken now new true → Advances old new before after true
-fed-advances old now new before after so fed = (
+pub fed-advances : (old now new : LineState) (before after : Option (List ℕ)) → old.ended ≡ false → IsSoFar old now before after → IsHeldTaken now new true → Advances old new before after true
+fed-advances old now new before after began so fed = (
   so.bytes,
   record {
     taken = so.taken;
     within = omega (arith, so.within, fed.within);
+    no_more_held = omega (arith, ap length (so.all ∙ sym fed.all), length-append old.held so.bytes, length-append new.line (10 ∷ new.held));
     at_end = λ _ e. absurd (apart new.ended fed.ended e);
-    none_held = λ e. absurd (apart new.ended fed.ended e);
+    none_held = λ _ e. absurd (apart new.ended fed.ended e);
+    over = λ e. absurd (apart old.ended began e);
   },
   λ more _.
       ap lines_of (sym (append_assoc old.held so.bytes more) ∙ ap (λ t. t ++ more) (so.all ∙ sym fed.all) ∙ append_assoc new.line (10 ∷ new.held) more)
       ∙ lines-fed new.line (new.held ++ more) (fed.clear so.clear),
 )
-  where
-    apart : (b : Bool) → b ≡ false → b ≡ true → ⊥
-    apart true e f = cc
-    apart false e f = cc
 
 module _ (old now mid new : LineState) (before between after : Option (List ℕ)) (so : IsSoFar old now before between) (taken : IsHeldTaken now mid false) where
   -- a piece more
@@ -91,14 +93,16 @@ module _ (old now mid new : LineState) (before between after : Option (List ℕ)
   }
 
   -- the end of the source
-  pub end-advances : (empty : Bool) → empty ≡ (length new.line == 0) → IsRefilled mid new between after false → Advances old new before after (not empty)
-  end-advances empty e r = (
+  pub end-advances : (empty : Bool) → empty ≡ (length new.line == 0) → old.ended ≡ false → IsRefilled mid new between after false → Advances old new before after (not empty)
+  end-advances empty e began r = (
     so.bytes ++ new.held,
     record {
       taken = Consumes-trans before between after so.bytes new.held so.taken r.taken;
       within = omega (arith, so.within, taken.within, r.within, length-append so.bytes new.held);
+      no_more_held = omega (arith, ap length (r.none_held refl));
       at_end = λ _ _. r.at_end refl;
-      none_held = λ _. r.none_held refl;
+      none_held = λ _ _. r.none_held refl;
+      over = λ e. absurd (apart old.ended began e);
     },
     by empty e,
   )

@@ -1,1 +1,3 @@
 pub mod Advanced
+pub mod LinesTaken
+pub mod ReadUntil

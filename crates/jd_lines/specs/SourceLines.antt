@@ -1,5 +1,5 @@
 -- The lines of a source: what is held of it, and what a line more takes.
-use Rattle.std.specs.Prelude.{◌≡◌, ℕ, ◌+◌, ◌<◌, Bool, true, false, not, ◌==◌, if◌then◌else◌, List, [], ◌∷◌, ◌++◌, length, take, drop, Option, Some, None}
+use Rattle.std.specs.Prelude.{◌≡◌, ℕ, ◌+◌, ◌<◌, ◌≤◌, Bool, true, false, not, ◌==◌, if◌then◌else◌, List, [], ◌∷◌, ◌++◌, length, take, drop, Option, Some, None}
 use Rattle.std.specs.Io.KnownBytes.{Consumes, IsAtEnd}
 use Rattle.std.specs.List.{All}
 use Rattle.jd_text.specs.Lines.{lines_of}
@@ -54,12 +54,21 @@ pub record IsRefilled (old new : LineState) (before after : Option (List ℕ)) (
   pub ended : new.ended ≡ not some
   pub at_end : some ≡ false → IsAtEnd after
 
+-- once the end was met nothing is read any more
+pub record IsOver (old new : LineState) (before after : Option (List ℕ)) (bytes : List ℕ) : Type 0 where
+  pub none : bytes ≡ []
+  pub left : after ≡ before
+  pub ended : new.ended ≡ true
+  pub held : new.held ≡ old.held
+
 -- bytes of the source were read, within the limit. Where its end is met for the first time, it is at its end
 pub record HasRead (old new : LineState) (before after : Option (List ℕ)) (bytes : List ℕ) : Type 0 where
   pub taken : Consumes before after bytes
   pub within : new.within + length bytes ≡ old.within
+  pub no_more_held : length new.held ≤ length old.held + length bytes
   pub at_end : old.ended ≡ false → new.ended ≡ true → IsAtEnd after
-  pub none_held : new.ended ≡ true → new.held ≡ []
+  pub none_held : old.ended ≡ false → new.ended ≡ true → new.held ≡ []
+  pub over : old.ended ≡ true → IsOver old new before after bytes
 
 -- of what was held and read, and whatever follows, which is nothing where the end was met, this is the first line
 abbrev pub IsFirstLine : LineState → LineState → List ℕ → Type 0
@@ -84,3 +93,18 @@ pub record IsSkipped (old new : LineState) (before after : Option (List ℕ)) : 
   pub bytes : List ℕ
   pub read : HasRead old new before after bytes
   pub ended : new.ended ≡ true
+
+-- ---- lines one after another
+
+-- these lines were taken: with whatever follows, which is nothing where the end was met, they are the first
+pub record AreTaken (old new : LineState) (before after : Option (List ℕ)) (lines : List (List ℕ)) : Type 0 where
+  pub bytes : List ℕ
+  pub read : HasRead old new before after bytes
+  pub are : (more : List ℕ) → (new.ended ≡ true → more ≡ []) → lines_of (old.held ++ (bytes ++ more)) ≡ lines ++ lines_of (new.held ++ more)
+
+-- these lines were taken, and the source has no other
+pub record AreAll (old new : LineState) (before after : Option (List ℕ)) (lines : List (List ℕ)) : Type 0 where
+  pub bytes : List ℕ
+  pub read : HasRead old new before after bytes
+  pub ended : new.ended ≡ true
+  pub are : lines_of (old.held ++ bytes) ≡ lines

@@ -3,12 +3,15 @@
 //!
 //! - `SourceLines::new` begins, `advance` takes the next line, `line` gives it.
 //! - `skip` reads what is left to its end, and keeps nothing of it.
+//! - `read_until` hands the lines to a reader of jd_readers, up to the one that makes it whole.
 #![tactic(auto)]
 
 mod reading;
 mod stops;
 #[cfg(test)]
 mod tests;
+mod until;
 
 pub use reading::SourceLines;
 pub use stops::LineStop;
+pub use until::read_until;

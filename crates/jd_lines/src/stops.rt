@@ -1,5 +1,5 @@
 //! Why no further line is had.
-use hp_io::Failed;
+use hp_io::{Failed, NoMemory};
 use thiserror::Error;
 
 /// Why no further line is had.
@@ -22,5 +22,16 @@ impl From<Failed> for LineStop {
 
     fn from(_failed: Failed) -> LineStop {
         LineStop::Failed
+    }
+}
+
+impl From<NoMemory> for LineStop {
+    ghost use Rattle.std.specs.Prelude.{◌≡◌};
+    ghost use Rattle.jd_lines.specs.declared.stops.LineStop.{LineStop};
+
+    ghost from_gives = { λ _ stop. stop ≡ LineStop.NoMemory };
+
+    fn from(_e: NoMemory) -> LineStop {
+        LineStop::NoMemory
     }
 }

@@ -6,7 +6,7 @@ use Rattle.jd_lines.proofs.reading.SourceLines.advance.Goals as goal
 
 pub returns-then-branch-clause-advances : goal.returns-then-branch-clause-advances
 returns-then-branch-clause-advances g c =
-    fed-advances c.args.self.now c.loop-self.self c.take_held.new.self _ _ c.loop-self.invariant.so_far
+    fed-advances c.args.self.now c.loop-self.self c.take_held.new.self _ _ c.loop-self.invariant.began c.loop-self.invariant.so_far
     (subst (λ fed. IsHeldTaken c.loop-self.self c.take_held.new.self fed) c.if-branch.true c.in_ok-take_held.ensures.taken)
 
 pub returns-in-Err-clause-too_long : goal.returns-in-Err-clause-too_long
@@ -31,6 +31,7 @@ returns-then-not-some-clause-advances g c =
     end-advances c.args.self.now c.loop-self.self c.take_held.new.self c.refill.new.self (left c.args.source.now) (left c.loop-self.source) (left c.refill.new.source) c.loop-self.invariant.so_far
     (subst (λ fed. IsHeldTaken c.loop-self.self c.take_held.new.self fed) c.if-branch.false c.in_ok-take_held.ensures.taken)
     c.is_empty.result (c.is_empty.ensures ∙ ap (λ n. n == 0) same ∙ ap (λ (s : LineState). length s.line == 0) c.self-in-loop-self.view_is)
+    c.loop-self.invariant.began
     (subst (λ some. IsRefilled c.take_held.new.self c.refill.new.self (left c.loop-self.source) (left c.refill.new.source) some) c.if-not-some.true c.in-Ok.ensures.refilled)
 
 pub loop-self-preserved : goal.loop-self-preserved
