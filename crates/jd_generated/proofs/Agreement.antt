@@ -8,12 +8,14 @@ use Rattle.std.specs.Cmp.Lexicographic.{pointwise}
 use Rattle.hp_model.specs.declared.End.{End}
 use Rattle.hp_model.specs.Operations.{Operation}
 use Rattle.hp_model.specs.State.{Data, Machine}
-use Rattle.hp_model.specs.Run.{run}
+use Rattle.hp_model.specs.Run.{run, run_answers}
 use Rattle.jd_model.specs.Problems.{allows, Field, blocks, are_in_fields, is_in_field, fields, numbers}
 use Rattle.jd_model.specs.ProblemWriter.{chosen}
 use Rattle.jd_model.specs.Seen.{agree, agree_on, machine_at, parts_of, seen_of_run}
 use Rattle.jd_generated.specs.Generated.{Draw, double, complement, negation, turn, five_more, in_first, in_second, appended, routine, draws, draws_for, generated}
 use Rattle.jd_generated.proofs.Draws.{rest_of, ready, first-serves, second-serves, x_after, same-values, first-of, second-of}
+use Rattle.jd_generated.specs.Laws.{AskOnce}
+use Rattle.jd_generated.proofs.Asked.{asked-once, first-asks-nothing, second-asks-nothing}
 use Rattle.jd_generated.proofs.Runs.{value, headed, IsOver, whole-run}
 
 -- ---- as many lines
@@ -141,3 +143,14 @@ generated-agree n s allowed =
   where
     small : (x : ℕ) → x < 256 → headed x < 256
     small x below = grind (arith, nat_tests)
+
+pub generated-ask-once : (n : ℕ) (s : Data) → allows (generated n) s ≡ true → AskOnce n s
+generated-ask-once n s allowed =
+    let byte = is-byte n s allowed in
+    let steps = draws_for n in
+    let one = asked-once in_first first-serves first-asks-nothing steps (blocks (generated n)) s.x 500 (rest_of s) (within in_first short-first n) in
+    let other = asked-once in_second second-serves second-asks-nothing steps (blocks (generated n)) s.x 500 (rest_of s) (within in_second short-second n) in
+    record {
+      first = ap (run_answers 500) (begins n s (routine in_first steps) byte) ∙ one;
+      second = ap (run_answers 500) (begins n s (routine in_second steps) byte) ∙ other;
+    }

@@ -59,7 +59,7 @@ line-done m i op line inside code back =
     let here : m.control.line - 1 ≡ i = omega arith in
     rw (not_past, line_done) (rw next (rw here (rw code (rw back refl))))
 
-zero-after : (i : ℕ) → i + 0 ≡ i
+pub zero-after : (i : ℕ) → i + 0 ≡ i
 zero-after i = omega arith
 
 pub run-all : (ops : List Operation) (m : Machine) (i n : ℕ) → m.control.line ≡ suc i → Stand m.control.program i (map code_of ops) → GoOn ops m

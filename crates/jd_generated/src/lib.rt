@@ -4,4 +4,4 @@
 
 mod laws;
 
-pub use laws::{generated_routines_agree, worked_generated};
+pub use laws::{generated_routines_agree, generated_routines_ask_once, worked_generated};
