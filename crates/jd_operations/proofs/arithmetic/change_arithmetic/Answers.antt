@@ -1,0 +1,18 @@
+use Rattle.std.proofs.Common.{◌≡◌, ◌∙◌, sym}
+use Rattle.hp_ops.specs.Meaning.{of_arithmetic}
+use Rattle.hp_control.specs.Controls.{control_of}
+use Rattle.jd_content.specs.Meaning.{data_on}
+use Rattle.jd_content.proofs.Alone.{put_row}
+use Rattle.jd_operations.specs.Answers.{arithmetic_of, put_arithmetic}
+use Rattle.jd_operations.proofs.Groups.{arithmetic_at, arithmetic_is, has_divisor}
+use Rattle.jd_operations.proofs.arithmetic.change_arithmetic.Goals as goal
+
+pub returns-clause-done : goal.returns-clause-done
+returns-clause-done g c = λ given listing bounded none.
+    let k = control_of c.args.control.now listing in
+    let op = c.args.op in
+    let old = c.args.content.now in
+    let a = c.in_ok-answer.ensures in
+    put_row _ _ k (of_arithmetic op) given (put_arithmetic op) (λ d. arithmetic_of op k.size k.mode d.y d.x) old _ _ c.requires.fits a.grows a.fits
+    (λ val s e. arithmetic_at op _ _ k.mode _ _ _ c.requires.fits.x.size (a.meaning val s) (has_divisor op k given (data_on val old) none e))
+    (arithmetic_is op k given) c.put.ensures

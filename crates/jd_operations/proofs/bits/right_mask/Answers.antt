@@ -1,0 +1,20 @@
+use Rattle.std.proofs.Common.{◌≡◌, ◌≤◌, ◌∙◌, ap, length, refl}
+use Rattle.hp_model.specs.Words.{magnitude}
+use Rattle.hp_model.specs.WordOperations.{mask_right_pattern, plain}
+use Rattle.jd_circuit.proofs.Values.{solves_before}
+use Rattle.jd_vectors.specs.Number.{number}
+use Rattle.jd_operations.proofs.bits.right_mask.Goals as goal
+
+pub returns-clause-fits : goal.returns-clause-fits
+returns-clause-fits g c = rw c.plain.ensures (record {
+  pattern = record { size = c.in_ok-pattern.ensures.length ∙ c.len.ensures.len; inside = c.in_ok-pattern.ensures.of };
+  carry = tt;
+  range = tt;
+})
+
+pub returns-clause-meaning : goal.returns-clause-meaning
+returns-clause-meaning g c = λ val s few.
+    let s0 = solves_before _ _ val c.in_ok-pattern.ensures.grows s in
+    let m : number val c.in_ok-m.m ≡ magnitude (length c.args.x.now) c.args.mode (number val c.args.x.now) = c.in_ok-m.ensures.number val s0 few in
+    let inside : number val c.in_ok-m.m ≤ c.len.result = rw (c.len.ensures.len, m) few in
+    rw c.plain.ensures (ap plain (c.in_ok-pattern.ensures.number val s inside ∙ ap mask_right_pattern m))
