@@ -1,5 +1,5 @@
 -- Operations that add no gate, and answers put into the content, as changes.
-use Rattle.std.proofs.Common.{◌≡◌, ℕ, Bool, List, length, ap, sym, subst, ◌∙◌}
+use Rattle.std.proofs.Common.{◌≡◌, ℕ, Bool, List, length, ap, ◌∙◌}
 use Rattle.hp_model.specs.declared.Answer.{Answer}
 use Rattle.hp_model.specs.State.{Control, Data}
 use Rattle.hp_model.specs.Operations.{Operation}

@@ -1,11 +1,11 @@
 -- Registers that are cleared.
-use Rattle.std.proofs.Common.{◌≡◌, ℕ, zero, suc, ◌+◌, ◌*◌, ◌/◌, ◌≤◌, min, max, Bool, false, List, [], ◌∷◌, length, replicate, take, drop, refl, sym, ap, ◌∙◌, arith}
+use Rattle.std.proofs.Common.{◌≡◌, ℕ, zero, suc, ◌*◌, ◌/◌, Bool, false, List, ◌∷◌, length, replicate, take, drop, refl, sym, ap, ◌∙◌, arith}
 use Rattle.std.proofs.lemmas.List.{length-replicate}
 use Rattle.hp_model.specs.Lists.{tabulated, tabulated_from}
 use Rattle.hp_model.proofs.Tabulated.{same_tabulated, length-tabulated}
 use Rattle.jd_circuit.specs.declared.literals.Lit.{Lit}
 use Rattle.jd_circuit.specs.declared.literals.Lit.TheVariants.{Const}
-use Rattle.jd_vectors.specs.Number.{number, Inside, lowest, highest}
+use Rattle.jd_vectors.specs.Number.{number, Inside}
 use Rattle.jd_content.specs.Meaning.{nibble_on, nibbles_on}
 
 falses : (val : ℕ → Bool) (n j k : ℕ) → number val (take k (drop j (replicate n (Const false)))) ≡ 0

@@ -1,14 +1,13 @@
 -- Moves of the stack and answers, on the data and its shape.
-use Rattle.std.proofs.Common.{◌≡◌, ℕ, zero, suc, ◌+◌, ◌-◌, ◌*◌, ◌^◌, ◌<◌, ◌≤◌, Bool, true, false, List, [], ◌∷◌, length, map, set, get_or, slice_get, Some, None, refl, sym, ap, ◌∙◌, arith}
+use Rattle.std.proofs.Common.{◌≡◌, ℕ, zero, suc, ◌≤◌, Bool, false, List, [], ◌∷◌, map, set, get_or, slice_get, Some, None, refl, sym, ap, ◌∙◌, arith}
 use Rattle.std.proofs.lemmas.List.{map-set}
 use Rattle.std.specs.declared.option.Option.{Option}
-use Rattle.hp_model.specs.declared.Answer.{Answer}
 use Rattle.hp_model.specs.State.{Data}
 use Rattle.hp_model.specs.DataStep.{answered}
 use Rattle.jd_circuit.specs.declared.literals.Lit.{Lit}
-use Rattle.jd_circuit.specs.Meaning.{lit_value, variable}
-use Rattle.jd_circuit.specs.Net.{Net, Grows, variables, IsLit, low}
-use Rattle.jd_vectors.specs.Number.{number, Inside}
+use Rattle.jd_circuit.specs.Meaning.{lit_value}
+use Rattle.jd_circuit.specs.Net.{Net, Grows, variables, IsLit}
+use Rattle.jd_vectors.specs.Number.{Inside}
 use Rattle.jd_content.specs.declared.content.SymContent.{SymContent}
 use Rattle.jd_rows.specs.Answers.{IsWord, AnswerFits}
 use Rattle.jd_content.specs.Meaning.{flag_after, Fits}

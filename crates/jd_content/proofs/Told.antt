@@ -1,5 +1,5 @@
 -- The numbers that answers spell, a word size and a register, and what no error says of them.
-use Rattle.std.proofs.Common.{◌≡◌, ℕ, ◌+◌, ◌*◌, ◌/◌, ◌^◌, ◌<◌, ◌≤◌, ◌||◌, Bool, true, false, List, [], ◌∷◌, map, None, arith, refl, sym, ap, ◌∙◌, nat_le, nat_lt}
+use Rattle.std.proofs.Common.{◌≡◌, ℕ, ◌^◌, ◌<◌, ◌≤◌, ◌||◌, Bool, true, false, List, [], ◌∷◌, map, None, arith, refl, sym, ap, ◌∙◌, nat_le, nat_lt}
 use Rattle.std.proofs.lemmas.Bool.Decides.{nat_tests}
 use Rattle.hp_model.specs.Words.{bit, number_of_bits}
 use Rattle.hp_model.specs.State.{Control, Data, index_bits, large_bytes, register_nibbles, registers}

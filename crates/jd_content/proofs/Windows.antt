@@ -1,5 +1,5 @@
 -- Nibbles of literals: what a register reads, and what a written one changes.
-use Rattle.std.proofs.Common.{◌≡◌, ℕ, zero, suc, ◌+◌, ◌-◌, ◌*◌, ◌/◌, ◌%◌, ◌^◌, ◌<◌, ◌≤◌, ◌&&◌, Bool, true, false, nat_lt, nat_le, List, [], ◌∷◌, ◌++◌, length, take, drop, get_or, refl, sym, ap, ◌∙◌, subst, arith, length-append, append_assoc, lit≤}
+use Rattle.std.proofs.Common.{◌≡◌, ℕ, zero, suc, ◌+◌, ◌-◌, ◌*◌, ◌/◌, ◌%◌, ◌^◌, ◌<◌, ◌≤◌, Bool, true, false, nat_lt, List, [], ◌∷◌, ◌++◌, length, take, drop, get_or, refl, sym, ap, ◌∙◌, subst, arith, length-append, append_assoc, lit≤}
 use Rattle.std.specs.Prelude.{if◌then◌else◌}
 use Rattle.std.proofs.lemmas.Bool.Decides.{nat_tests}
 use Rattle.std.proofs.lemmas.List.{take-append-drop, length-drop, length-take-le, take-take, drop-drop}
@@ -11,7 +11,7 @@ use Rattle.hp_model.specs.Memory.{nibble_sum, register_value, with_register, nib
 use Rattle.hp_model.proofs.Tabulated.{length-tabulated, get-tabulated, same_tabulated}
 use Rattle.jd_circuit.specs.declared.literals.Lit.{Lit}
 use Rattle.jd_vectors.specs.Number.{number}
-use Rattle.jd_vectors.proofs.Numbers.{number-append, number-small, number-take_small}
+use Rattle.jd_vectors.proofs.Numbers.{number-append, number-take_small}
 use Rattle.jd_content.specs.Meaning.{nibble_on, nibbles_on}
 use Rattle.jd_vectors.proofs.Numbers.{number-split}
 

@@ -10,7 +10,7 @@ pub record NamesRegister (w nibbles : ℕ) (given : List Bool) : Type 0 where
   pub first : answer_at 0 given ≡ false
   pub below : number_given given < nibbles / width w
 
--- words of w bits
+-- the place is the index register, or a register among so many nibbles at words of w bits
 abbrev pub IsInside : ℕ → ℕ → Place → List Bool → Type 0
 IsInside w nibbles (ops.register r) given = r < nibbles / width w
 IsInside w nibbles ops.index_register given = Unit {0}

@@ -1,5 +1,5 @@
 -- The gates of a row at the greatest word size.
-use Rattle.std.proofs.Common.{ℕ, ◌+◌, ◌*◌, ◌^◌, ◌≤◌, arith}
+use Rattle.std.proofs.Common.{ℕ, ◌*◌, ◌≤◌}
 use Rattle.std.proofs.Math.Nat.{mul-le-mul_left}
 
 pub squares : (k n : ℕ) → n ≤ 64 → k * n * n ≤ k * n * 64

@@ -1,5 +1,5 @@
 -- What groups of operations answer and where it goes, worked by computation.
-use Rattle.std.proofs.Common.{◌≡◌, false, true, Some, None, [], ◌∷◌, refl, arith}
+use Rattle.std.proofs.Common.{◌≡◌, false, true, Some, [], ◌∷◌, refl, arith}
 use Rattle.hp_model.specs.declared.Mode.TheVariants.{Ones, Twos, Unsigned}
 use Rattle.hp_model.specs.Operations as ops
 use Rattle.hp_model.specs.State.{Data}

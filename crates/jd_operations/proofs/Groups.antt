@@ -1,5 +1,5 @@
 -- What groups of operations answer and put is what the operations do, where the answers so far were no.
-use Rattle.std.proofs.Common.{◌≡◌, ℕ, zero, suc, ◌-◌, ◌*◌, ◌%◌, ◌^◌, ◌<◌, ◌≤◌, ◌==◌, ◌||◌, Bool, true, false, nat_le, nat_lt, List, [], ◌∷◌, map, set, get_or, slice_get, Some, None, refl, sym, ap, ◌∙◌, subst, arith}
+use Rattle.std.proofs.Common.{◌≡◌, ℕ, zero, suc, ◌-◌, ◌*◌, ◌%◌, ◌^◌, ◌<◌, ◌≤◌, ◌==◌, ◌||◌, Bool, true, false, nat_le, nat_lt, List, [], ◌∷◌, set, get_or, Some, None, refl, sym, ap, ◌∙◌, subst, arith}
 use Rattle.std.proofs.lemmas.Bool.Decides.{nat_tests}
 use Rattle.std.proofs.Math.Nat.{mod-eq_of_lt}
 use Rattle.std.specs.Prelude.{if◌then◌else◌}
@@ -22,7 +22,6 @@ use Rattle.hp_ops.specs.declared.groups.Logic.{Logic}
 use Rattle.hp_ops.specs.declared.groups.Logic.TheVariants as logic
 use Rattle.hp_ops.specs.declared.groups.Loop.{Loop}
 use Rattle.hp_ops.specs.declared.groups.Loop.TheVariants as loop
-use Rattle.jd_circuit.specs.declared.literals.Lit.{Lit}
 use Rattle.jd_content.proofs.Told.{either, not_erring}
 use Rattle.jd_comparisons.specs.Counts.{counted}
 use Rattle.jd_operations.specs.Answers.{HasDivisor, HasPlace, arithmetic_of, bits_of, logic_of, put_arithmetic, put_bits, put_logic}

@@ -1,5 +1,5 @@
 -- Answers put into the content, where no gate is added.
-use Rattle.std.proofs.Common.{◌≡◌, ℕ, Bool, List, length, ap, ◌∙◌}
+use Rattle.std.proofs.Common.{◌≡◌, ℕ, Bool, List, length}
 use Rattle.hp_model.specs.declared.Answer.{Answer}
 use Rattle.hp_model.specs.State.{Control, Data}
 use Rattle.hp_model.specs.Operations.{Operation}

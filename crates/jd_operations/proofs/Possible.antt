@@ -1,5 +1,5 @@
 -- Where an operation doesn't err, its answers name a register or a word size.
-use Rattle.std.proofs.Common.{◌≡◌, ℕ, Bool, List, None}
+use Rattle.std.proofs.Common.{◌≡◌, Bool, List, None}
 use Rattle.hp_model.specs.Operations.{Operation}
 use Rattle.hp_model.specs.Operations as ops
 use Rattle.hp_model.specs.State.{Control, register_nibbles}

@@ -1,7 +1,7 @@
 -- Only WSIZE changes the word size.
 use Rattle.std.proofs.Common.{◌≡◌, ℕ, Bool, List, refl, sym, subst}
 use Rattle.hp_model.specs.Operations.{Operation}
-use Rattle.hp_ops.specs.Meaning.{of_arithmetic, of_bits, of_double, of_flags, of_jump, of_logic, of_loop, of_registers, of_shift, of_stack, of_windows}
+use Rattle.hp_ops.specs.Meaning.{of_arithmetic, of_bits, of_double, of_flags, of_logic, of_loop, of_registers, of_shift, of_stack}
 use Rattle.hp_ops.specs.declared.groups.Arithmetic.{Arithmetic}
 use Rattle.hp_ops.specs.declared.groups.Arithmetic.TheVariants as arithmetic
 use Rattle.hp_ops.specs.declared.groups.Bits.{Bits}

@@ -1,10 +1,10 @@
 -- What the groups of operations answer, and where they put it.
-use Rattle.std.specs.Prelude.{ℕ, ◌-◌, ◌^◌, ◌<◌, ◌≤◌, bit_and, bit_or, bit_xor, Bool}
+use Rattle.std.specs.Prelude.{ℕ, ◌-◌, ◌^◌, ◌<◌, ◌≤◌, bit_and, bit_or, bit_xor}
 use Rattle.hp_model.specs.declared.Answer.{Answer}
 use Rattle.hp_model.specs.declared.Mode.{Mode}
 use Rattle.hp_model.specs.State.{Data}
 use Rattle.hp_model.specs.Words.{magnitude}
-use Rattle.hp_model.specs.WordOperations.{plain, sum_of, difference_of, product_of, quotient_of, remainder_of, negation_of, absolute_of, root_of, double_quotient_of, double_remainder_of, shifted_left_of, shifted_right_of, shifted_arithmetic_of, ones_below, mask_left_pattern, mask_right_pattern, with_bit, without_bit}
+use Rattle.hp_model.specs.WordOperations.{plain, sum_of, difference_of, product_of, quotient_of, remainder_of, negation_of, absolute_of, root_of, ones_below, mask_left_pattern, mask_right_pattern, with_bit, without_bit}
 use Rattle.hp_model.specs.DataStep.{answered, of_two, of_x}
 use Rattle.hp_ops.specs.declared.groups.Arithmetic.{Arithmetic}
 use Rattle.hp_ops.specs.declared.groups.Arithmetic.TheVariants as arithmetic

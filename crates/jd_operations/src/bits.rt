@@ -149,10 +149,7 @@ fn answer<W: Rewrite>(
         Bits::CountOnes => ones_of(c, x),
         Bits::Set => bit_set(c, mode, y, x),
         Bits::Clear => bit_cleared(c, mode, y, x),
-        Bits::Test => {
-            let _ = c.mark();
-            Ok(SymAnswer::plain(y.copy()))
-        }
+        Bits::Test => Ok(SymAnswer::plain(y.copy())),
     }
 }
 

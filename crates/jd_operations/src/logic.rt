@@ -65,10 +65,7 @@ fn answer<W: Rewrite>(
     ensures more { length c.new.gates ≤ length c.old.gates + 64 }
 {
     match op {
-        Logic::Not => {
-            let _ = c.mark();
-            Ok(inverted(x))
-        }
+        Logic::Not => Ok(inverted(x)),
         Logic::And => joined(c, Bitwise::And, y, x),
         Logic::Or => joined(c, Bitwise::Or, y, x),
         Logic::Xor => joined(c, Bitwise::Xor, y, x),
@@ -101,7 +98,6 @@ pub fn change_logic<W: Rewrite>(
     ensures grows { Grows c.old c.new }
     ensures more { length c.new.gates ≤ length c.old.gates + 2 ^ 17 }
 {
-    let _ = control.size;
     let answer = answer(c, op, &content.y, &content.x)?;
     put(content, op, answer);
     Ok(())

@@ -30,7 +30,6 @@ fn change_setting(content: &mut SymContent, control: &Control, op: Setting, give
         → IsDone net net control.now (of_setting op) given.now
         (size_after (of_setting op) given.now control.now.size.bits) content.old content.new }
 {
-    let _ = control.size;
     match op {
         Setting::Size => change_size(content, given),
         Setting::Base(_) => {}

@@ -44,7 +44,6 @@ pub fn change_rotate(content: &mut SymContent, control: &Control, op: Rotation)
         → IsDone net net control.now (ops.rotate
         (way op)) given control.now.size.bits content.old content.new }
 {
-    let _ = control.size;
     let carry = flag(content, 4);
     let answer = rotated(op, &content.x, carry);
     answer_x(content, answer);

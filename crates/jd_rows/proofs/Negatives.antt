@@ -3,7 +3,6 @@ use Rattle.std.proofs.Common.{◌≡◌, ℕ, ◌+◌, ◌-◌, ◌*◌, ◌%◌
 use Rattle.std.specs.Prelude.{if◌then◌else◌, Some, None, neg_ℤ}
 use Rattle.std.proofs.lemmas.Bool.Decides.{nat_tests}
 use Rattle.std.proofs.Math.Nat.{one-le-pow}
-use Rattle.hp_model.specs.declared.Answer.{Answer}
 use Rattle.hp_model.specs.declared.Mode.TheVariants.{Unsigned, Ones, Twos}
 use Rattle.hp_model.specs.Words.{fits, value}
 use Rattle.hp_model.specs.WordOperations.{negation_of}

@@ -1,7 +1,6 @@
 -- Words moved by one place, and single bits of words.
-use Rattle.std.proofs.Common.{◌≡◌, ℕ, zero, suc, ◌+◌, ◌-◌, ◌*◌, ◌/◌, ◌%◌, ◌^◌, ◌<◌, ◌≤◌, ◌==◌, Bool, true, false, Some, None, List, [], ◌∷◌, ◌++◌, length, length-drop, length-append, take, drop, slice_get, slice_range, refl, sym, ap, ◌∙◌, arith}
+use Rattle.std.proofs.Common.{◌≡◌, ℕ, zero, suc, ◌+◌, ◌-◌, ◌*◌, ◌/◌, ◌%◌, ◌^◌, ◌≤◌, ◌==◌, Bool, true, false, Some, None, List, [], ◌∷◌, ◌++◌, length, length-drop, length-append, take, drop, slice_get, slice_range, refl, sym, ap, ◌∙◌, arith}
 use Rattle.std.proofs.lemmas.List.{length-take-le}
-use Rattle.std.proofs.Math.Nat.{pow-suc}
 use Rattle.jd_circuit.specs.declared.literals.Lit.{Lit}
 use Rattle.jd_circuit.specs.Meaning.{lit_value}
 use Rattle.jd_circuit.specs.Net.{IsLit}
@@ -11,7 +10,6 @@ use Rattle.jd_vectors.proofs.Kept.{Inside-take, Inside-drop, Inside-cons, Inside
 use Rattle.jd_shifts.proofs.Chains.{number-high}
 use Rattle.hp_model.specs.Words as words
 use Rattle.hp_model.specs.WordOperations.{bit_number, carrying}
-use Rattle.hp_model.specs.declared.Answer.{Answer}
 use Rattle.hp_bits.proofs.Turns.{left_part}
 use Rattle.jd_rows.specs.Answers.{IsWord}
 

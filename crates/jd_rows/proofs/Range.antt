@@ -1,14 +1,13 @@
 -- Whether sums, differences and negatives are in the range of the word, from top bits and carries.
-use Rattle.std.proofs.Common.{◌≡◌, ℕ, zero, suc, ◌+◌, ◌-◌, ◌*◌, ◌/◌, ◌%◌, ◌^◌, ◌<◌, ◌≤◌, Bool, true, false, not, ◌&&◌, ◌||◌, ◌==◌, nat_lt, nat_le, refl, sym, ap, ◌∙◌, arith}
-use Rattle.std.specs.Prelude.{ℤ, pos, negsuc, ◌+ℤ◌, ◌-ℤ◌, neg_ℤ, int_le, if◌then◌else◌, Some, None}
+use Rattle.std.proofs.Common.{◌≡◌, ℕ, suc, ◌+◌, ◌-◌, ◌*◌, ◌%◌, ◌^◌, ◌<◌, ◌≤◌, Bool, true, false, not, ◌&&◌, ◌==◌, nat_lt, nat_le, refl, sym, ap, ◌∙◌, arith}
+use Rattle.std.specs.Prelude.{pos, ◌+ℤ◌, ◌-ℤ◌, neg_ℤ, int_le, if◌then◌else◌, Some}
 use Rattle.std.proofs.lemmas.Bool.Decides.{nat_tests}
 use Rattle.std.proofs.lemmas.Int.{ints}
 use Rattle.std.proofs.lemmas.Nat.{mod_below}
-use Rattle.hp_model.specs.declared.Answer.{Answer}
 use Rattle.std.proofs.Math.Nat.{pow-suc, one-le-pow, mod-eq_of_lt, add-mod_right}
 use Rattle.hp_model.specs.declared.Mode.{Mode}
 use Rattle.hp_model.specs.declared.Mode.TheVariants.{Unsigned, Ones, Twos}
-use Rattle.hp_model.specs.Words.{value, fits, least, greatest}
+use Rattle.hp_model.specs.Words.{value, fits}
 use Rattle.hp_model.specs.WordOperations.{sum_pattern, difference_pattern, difference_of}
 use Rattle.jd_circuit.specs.Meaning.{xor}
 use Rattle.jd_rows.specs.Answers.{overflows, below, above, difference_out}

@@ -1,10 +1,10 @@
 -- Answers by signs and magnitudes are the rows.
-use Rattle.std.proofs.Common.{◌≡◌, ℕ, ◌*◌, ◌+◌, ◌^◌, ◌<◌, Bool, true, false, not, nat_lt, refl, sym, ap, ◌∙◌, subst}
-use Rattle.std.specs.Prelude.{ℤ, Some, None, ◌==◌, nat_abs, int_div, ◌*ℤ◌}
+use Rattle.std.proofs.Common.{◌≡◌, ℕ, ◌*◌, ◌+◌, ◌^◌, ◌<◌, Bool, false, not, nat_lt, refl, sym, ap, ◌∙◌, subst}
+use Rattle.std.specs.Prelude.{ℤ, Some, None, ◌==◌, int_div}
 use Rattle.hp_model.specs.declared.Answer.{Answer}
 use Rattle.hp_model.specs.declared.Mode.{Mode}
 use Rattle.hp_model.specs.Words.{value, low, fits, magnitude}
-use Rattle.hp_model.specs.WordOperations.{quotient_of, remainder_of, root_of, root, is_nonzero, double_value, double_quotient, double_quotient_of, double_remainder_of, rest_of}
+use Rattle.hp_model.specs.WordOperations.{quotient_of, remainder_of, root_of, root, is_nonzero, double_value, double_quotient_of, double_remainder_of, rest_of}
 use Rattle.jd_muldiv.specs.Steps.{Rooted}
 use Rattle.jd_turns.proofs.Roots.{root_is, root_carry}
 use Rattle.jd_rows.specs.Answers.{with_sign, DividedBy}

@@ -1,6 +1,6 @@
 -- Signs: magnitudes, absolute values and signed quotients as numbers.
 use Rattle.std.proofs.Common.{◌≡◌, ℕ, zero, suc, ◌+◌, ◌-◌, ◌*◌, ◌/◌, ◌%◌, ◌^◌, ◌<◌, ◌≤◌, ◌==◌, ◌&&◌, Bool, true, false, not, nat_lt, nat_le, refl, sym, ap, ◌∙◌, arith}
-use Rattle.std.specs.Prelude.{ℤ, pos, negsuc, ◌-ℤ◌, neg_ℤ, nat_abs, if◌then◌else◌, Some, None, int_div, int_rem, ◌+ℤ◌, ◌*ℤ◌}
+use Rattle.std.specs.Prelude.{ℤ, pos, ◌-ℤ◌, neg_ℤ, nat_abs, if◌then◌else◌, int_div, int_rem, ◌+ℤ◌, ◌*ℤ◌}
 use Rattle.std.proofs.lemmas.Bool.Decides.{nat_tests}
 use Rattle.std.proofs.lemmas.Int.{ints, quot-rem}
 use Rattle.std.proofs.Math.Nat.{one-le-pow, mod-eq_of_lt, zero-div, zero-mod, mod_self}

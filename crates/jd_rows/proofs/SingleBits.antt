@@ -1,11 +1,11 @@
 -- Masks and single bits.
-use Rattle.std.proofs.Common.{◌≡◌, ℕ, zero, suc, ◌+◌, ◌-◌, ◌*◌, ◌/◌, ◌%◌, ◌^◌, ◌<◌, ◌≤◌, ◌==◌, Bool, true, false, not, bit_and, bit_or, arith, refl, sym, ap, ◌∙◌, lit≤}
-use Rattle.std.proofs.lemmas.Nat.{and_block, and-not, and_comm, and_mask, shr_split, mod_below, pow_pos, pow_below, mod-mul-add, pow-add}
+use Rattle.std.proofs.Common.{◌≡◌, ℕ, zero, suc, ◌+◌, ◌-◌, ◌*◌, ◌/◌, ◌%◌, ◌^◌, ◌<◌, ◌≤◌, ◌==◌, not, bit_and, arith, refl, sym, ap, ◌∙◌, lit≤}
+use Rattle.std.proofs.lemmas.Nat.{and_block, and-not, and_comm, and_mask, shr_split, mod_below, pow_pos, pow_below, mod-mul-add}
 use Rattle.std.proofs.Math.Nat.{mod-eq_of_lt, pow-le-pow_right}
 use Rattle.std.specs.Int.Bits.{and_zero_l}
 use Rattle.std.proofs.lemmas.Bool.Decides.{nat_tests}
 use Rattle.hp_model.specs.Words.{bit}
-use Rattle.hp_model.specs.WordOperations.{with_bit, without_bit}
+use Rattle.hp_model.specs.WordOperations.{without_bit}
 
 spread : (a r : ℕ) → (a + r) * (a + 1) ≡ a * (a + r + 1) + r
 spread a r = grind arith

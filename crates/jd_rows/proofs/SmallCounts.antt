@@ -1,7 +1,6 @@
 -- Counts that fit their words.
-use Rattle.std.proofs.Common.{◌≡◌, ℕ, zero, suc, ◌+◌, ◌%◌, ◌^◌, ◌≤◌, ◌<◌, Bool, true, false, None, refl, sym, ap, ◌∙◌, arith, lit≤}
+use Rattle.std.proofs.Common.{◌≡◌, ℕ, zero, suc, ◌%◌, ◌^◌, ◌≤◌, Bool, true, false, ap, ◌∙◌, arith, lit≤}
 use Rattle.std.proofs.Math.Nat.{mod-eq_of_lt}
-use Rattle.hp_model.specs.declared.Answer.{Answer}
 use Rattle.hp_model.specs.Words.{bit}
 use Rattle.hp_model.specs.WordOperations.{bit_number, ones_below}
 use Rattle.hp_bits.proofs.Lengths.{below_power}

@@ -11,10 +11,12 @@ use Rattle.jd_circuit.specs.Net.{IsLit}
 use Rattle.jd_vectors.specs.Number.{number, Inside}
 use Rattle.jd_rows.specs.declared.answer.SymAnswer.{SymAnswer}
 
+-- what the literal of a flag means, where the answer tells it
 abbrev pub told : (ℕ → Bool) → Option Lit → Option Bool
 told val None = None
 told val (Some l) = Some (lit_value val l)
 
+-- what an answer of literals means
 abbrev pub answer_on : (ℕ → Bool) → SymAnswer → Answer
 answer_on val a = record { pattern = number val a.pattern; carry = told val a.carry; range = told val a.range }
 
@@ -23,6 +25,7 @@ pub record IsWord (n w : ℕ) (ls : List Lit) : Type 0 where
   pub size : length ls ≡ w
   pub inside : Inside n ls
 
+-- the same of one literal, where there is one
 abbrev pub told_inside : ℕ → Option Lit → Type 0
 told_inside n None = Unit {0}
 told_inside n (Some l) = IsLit n l

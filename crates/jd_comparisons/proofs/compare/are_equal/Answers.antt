@@ -1,4 +1,4 @@
-use Rattle.std.proofs.Common.{◌≡◌, ◌∙◌}
+use Rattle.std.proofs.Common.{◌∙◌}
 use Rattle.jd_vectors.proofs.Numbers.{number-small}
 use Rattle.jd_rows.proofs.Tops.{small}
 use Rattle.jd_comparisons.proofs.Comparing.{equal_twos}

@@ -1,4 +1,3 @@
-use Rattle.std.proofs.Common.{◌≡◌, ◌∙◌}
 use Rattle.jd_circuit.proofs.Values.{solves_before}
 use Rattle.jd_circuit.proofs.SimpleGates.{value-opposite}
 use Rattle.jd_vectors.proofs.Numbers.{number-small}

@@ -1,4 +1,4 @@
-use Rattle.std.proofs.Common.{◌≡◌, ◌&&◌, ◌==◌, length, ap, ◌∙◌, refl}
+use Rattle.std.proofs.Common.{◌==◌, ap, ◌∙◌, refl}
 use Rattle.std.specs.Prelude.{nat_abs}
 use Rattle.hp_model.specs.Words.{value}
 use Rattle.jd_circuit.proofs.Values.{solves_before}

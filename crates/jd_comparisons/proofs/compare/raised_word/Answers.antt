@@ -1,7 +1,7 @@
 use Rattle.std.proofs.Common.{◌≡◌, ◌-◌, ◌∷◌, ◌++◌, [], length, take, slice_get, Some, ap, ◌∙◌, refl}
 use Rattle.jd_circuit.specs.Meaning.{lit_value}
 use Rattle.jd_circuit.proofs.SimpleGates.{value-opposite}
-use Rattle.jd_vectors.specs.Number.{Inside, number}
+use Rattle.jd_vectors.specs.Number.{number}
 use Rattle.jd_vectors.proofs.Kept.{front, Inside-at, Inside-push, Inside-take, IsLit-opposite}
 use Rattle.jd_comparisons.proofs.RaisedWords.{raised_number}
 use Rattle.jd_comparisons.proofs.compare.raised_word.Goals as goal

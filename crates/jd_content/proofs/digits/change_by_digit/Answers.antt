@@ -1,4 +1,3 @@
-use Rattle.std.proofs.Common.{◌≡◌}
 use Rattle.jd_content.proofs.digits.change_by_digit.Goals as goal
 
 pub returns-after-is_none-clause-fits : goal.returns-after-is_none-clause-fits

@@ -1,4 +1,4 @@
-use Rattle.std.proofs.Common.{◌≡◌, ℕ, Bool, List, ap, arith, map}
+use Rattle.std.proofs.Common.{Bool, List, ap, arith}
 use Rattle.jd_circuit.specs.declared.literals.Lit.TheVariants.{Const}
 use Rattle.jd_content.specs.Meaning.{data_on}
 use Rattle.jd_content.proofs.Contents.{flag_set, inside_set}

@@ -1,4 +1,3 @@
-use Rattle.std.proofs.Common.{◌≡◌}
 use Rattle.jd_content.proofs.moves.answer_x.Goals as goal
 
 pub returns : goal.returns

@@ -1,4 +1,4 @@
-use Rattle.std.proofs.Common.{◌≡◌, List, Bool, ap, ◌∙◌, refl}
+use Rattle.std.proofs.Common.{List, Bool, ap, ◌∙◌, refl}
 use Rattle.jd_vectors.specs.Number.{number}
 use Rattle.jd_rows.specs.Answers.{told}
 use Rattle.jd_content.specs.Meaning.{data_on, flag_after}

@@ -1,4 +1,4 @@
-use Rattle.std.proofs.Common.{◌≡◌, set, false, ap, ◌∙◌, arith, add-one}
+use Rattle.std.proofs.Common.{set, false, ap, ◌∙◌, arith, add-one}
 use Rattle.jd_circuit.specs.declared.literals.Lit.TheVariants.{Const}
 use Rattle.jd_content.proofs.Lists.{clear_turn}
 use Rattle.jd_content.proofs.nibbles.clear_lits.Goals as goal

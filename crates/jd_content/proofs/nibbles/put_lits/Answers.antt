@@ -1,4 +1,4 @@
-use Rattle.std.proofs.Common.{◌≡◌, ◌+◌, ◌≤◌, ◌<◌, length, arith, ap, ◌∙◌}
+use Rattle.std.proofs.Common.{arith}
 use Rattle.jd_content.proofs.Lists.{put_turn}
 use Rattle.jd_content.proofs.nibbles.put_lits.Goals as goal
 

@@ -1,4 +1,4 @@
-use Rattle.std.proofs.Common.{◌≡◌, ◌+◌, take, drop, ◌++◌, length}
+use Rattle.std.proofs.Common.{◌≡◌, ◌+◌, take, drop, ◌++◌}
 use Rattle.jd_content.proofs.nibbles.put_lits.Given as goal
 
 abbrev pub invariant-loop-i : goal.invariant-loop-i

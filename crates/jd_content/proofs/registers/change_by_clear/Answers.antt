@@ -1,4 +1,4 @@
-use Rattle.std.proofs.Common.{◌≡◌, List, ℕ, ap}
+use Rattle.std.proofs.Common.{List, ℕ, ap}
 use Rattle.jd_content.specs.Meaning.{data_on}
 use Rattle.jd_content.proofs.Cleared.{cleared, inside_falses}
 use Rattle.jd_content.proofs.registers.change_by_clear.Goals as goal

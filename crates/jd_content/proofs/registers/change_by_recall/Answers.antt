@@ -1,4 +1,4 @@
-use Rattle.std.proofs.Common.{◌≡◌, ◌<◌, ◌*◌, ℕ, ap, ◌∙◌, arith, refl}
+use Rattle.std.proofs.Common.{ℕ, ap, ◌∙◌, arith}
 use Rattle.hp_model.specs.Memory.{register_value}
 use Rattle.hp_model.specs.DataStep.{pushed}
 use Rattle.hp_control.specs.Controls.{control_of}

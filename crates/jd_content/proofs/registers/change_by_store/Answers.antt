@@ -1,4 +1,4 @@
-use Rattle.std.proofs.Common.{◌≡◌, ◌<◌, ℕ, ap, ◌∙◌, arith}
+use Rattle.std.proofs.Common.{ℕ, ap, ◌∙◌, arith}
 use Rattle.hp_model.specs.Memory.{with_register}
 use Rattle.hp_control.specs.Controls.{control_of}
 use Rattle.jd_content.specs.Meaning.{data_on}

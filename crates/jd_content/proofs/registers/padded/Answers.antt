@@ -1,4 +1,4 @@
-use Rattle.std.proofs.Common.{◌≡◌, ℕ, ◌+◌, ◌*◌, ◌^◌, arith}
+use Rattle.std.proofs.Common.{arith}
 use Rattle.jd_vectors.proofs.Numbers.{number-append}
 use Rattle.jd_vectors.proofs.Kept.{Inside-append}
 use Rattle.jd_content.proofs.registers.padded.Goals as goal

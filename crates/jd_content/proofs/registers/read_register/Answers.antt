@@ -1,4 +1,4 @@
-use Rattle.std.proofs.Common.{◌≡◌, ℕ, ◌+◌, ◌-◌, ◌*◌, ◌≤◌, length, take, drop, arith, ◌∙◌, refl}
+use Rattle.std.proofs.Common.{◌≡◌, ◌+◌, ◌-◌, ◌*◌, take, drop, arith, ◌∙◌, refl}
 use Rattle.std.proofs.lemmas.List.{length-drop, length-take-le}
 use Rattle.hp_model.specs.State.{width}
 use Rattle.jd_content.proofs.Windows.{read_is}

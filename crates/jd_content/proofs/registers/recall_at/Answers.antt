@@ -1,4 +1,3 @@
-use Rattle.std.proofs.Common.{◌≡◌}
 use Rattle.jd_content.proofs.registers.recall_at.Goals as goal
 
 pub returns-clause-fits : goal.returns-clause-fits

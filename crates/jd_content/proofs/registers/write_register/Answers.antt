@@ -1,4 +1,3 @@
-use Rattle.std.proofs.Common.{◌≡◌}
 use Rattle.jd_content.proofs.Windows.{write_is}
 use Rattle.jd_vectors.proofs.Kept.{Inside-take, Inside-drop, Inside-append}
 use Rattle.jd_content.proofs.registers.write_register.Goals as goal

@@ -1,6 +1,5 @@
-use Rattle.std.proofs.Common.{◌≡◌, ℕ, ◌==◌, ap, ◌∙◌, refl, length}
+use Rattle.std.proofs.Common.{◌==◌, ap, ◌∙◌}
 use Rattle.std.specs.Prelude.{if◌then◌else◌}
-use Rattle.hp_model.specs.Questions.{x_magnitude}
 use Rattle.hp_model.specs.DataStep.{with_size, with_x, dropped}
 use Rattle.jd_content.specs.Meaning.{data_on}
 use Rattle.jd_content.proofs.Told.{size_told}

@@ -1,4 +1,4 @@
-use Rattle.std.proofs.Common.{◌≡◌, ℕ, ◌-◌, ◌∙◌, refl, sym, arith, take, length}
+use Rattle.std.proofs.Common.{◌≡◌, ◌-◌, ◌∙◌, refl, sym, arith, take}
 use Rattle.std.proofs.lemmas.List.{length-take-le}
 use Rattle.jd_vectors.proofs.Kept.{Inside-take}
 use Rattle.jd_content.proofs.Windows.{number-mod}

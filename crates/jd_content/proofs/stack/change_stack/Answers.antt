@@ -1,4 +1,3 @@
-use Rattle.std.proofs.Common.{◌≡◌}
 use Rattle.jd_content.proofs.stack.change_stack.Goals as goal
 
 pub returns-in-ClearX-clause-fits : goal.returns-in-ClearX-clause-fits

@@ -1,4 +1,4 @@
-use Rattle.std.proofs.Common.{◌+◌, ◌*◌, ◌≤◌, length, arith}
+use Rattle.std.proofs.Common.{◌+◌, length, arith}
 use Rattle.jd_operations.proofs.Bounds.{rectangles, squares}
 use Rattle.jd_operations.proofs.arithmetic.answer.Goals as goal
 

@@ -1,4 +1,4 @@
-use Rattle.std.proofs.Common.{◌≡◌, ◌<◌, ◌≤◌, ◌∙◌, ap, length, arith}
+use Rattle.std.proofs.Common.{◌≡◌, ◌<◌, ◌∙◌, ap, length, arith}
 use Rattle.hp_model.specs.Words.{magnitude}
 use Rattle.hp_model.specs.WordOperations.{plain, without_bit}
 use Rattle.jd_circuit.proofs.Values.{solves_before}

@@ -1,4 +1,3 @@
-use Rattle.std.proofs.Common.{◌≡◌, ◌∙◌, sym}
 use Rattle.hp_ops.specs.Meaning.{of_bits}
 use Rattle.hp_control.specs.Controls.{control_of}
 use Rattle.jd_content.specs.Meaning.{data_on}

@@ -1,6 +1,6 @@
 use Rattle.std.proofs.Common.{◌≡◌, ◌≤◌, ◌∙◌, ap, length, refl}
 use Rattle.hp_model.specs.Words.{magnitude}
-use Rattle.hp_model.specs.WordOperations.{mask_left_pattern, plain}
+use Rattle.hp_model.specs.WordOperations.{plain}
 use Rattle.jd_circuit.proofs.Values.{solves_before}
 use Rattle.jd_vectors.specs.Number.{number}
 use Rattle.jd_operations.proofs.bits.left_mask.Goals as goal

@@ -1,4 +1,4 @@
-use Rattle.std.proofs.Common.{◌≡◌, ◌≤◌, ◌∙◌, ap, length, refl}
+use Rattle.std.proofs.Common.{◌≡◌, ◌≤◌, ◌∙◌, ap, length}
 use Rattle.hp_model.specs.Words.{magnitude}
 use Rattle.hp_model.specs.WordOperations.{mask_right_pattern, plain}
 use Rattle.jd_circuit.proofs.Values.{solves_before}

@@ -1,4 +1,4 @@
-use Rattle.std.proofs.Common.{◌≡◌, ◌∙◌, ◌<◌, ap, refl, subst, sym, ◌+◌, length, arith}
+use Rattle.std.proofs.Common.{◌∙◌, ◌<◌, ap, refl, subst, sym, ◌+◌, length, arith}
 use Rattle.hp_model.specs.Operations as ops
 use Rattle.hp_model.specs.Questions.{x_magnitude}
 use Rattle.hp_model.specs.DataStep.{of_three}

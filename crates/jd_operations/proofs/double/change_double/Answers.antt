@@ -1,4 +1,3 @@
-use Rattle.std.proofs.Common.{◌≡◌}
 use Rattle.jd_operations.proofs.double.change_double.Goals as goal
 
 pub returns-in-Multiply-clause-done : goal.returns-in-Multiply-clause-done

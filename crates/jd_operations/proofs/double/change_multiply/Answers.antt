@@ -1,4 +1,4 @@
-use Rattle.std.proofs.Common.{◌≡◌, ◌∙◌, ap, refl, false, length, arith, ◌+◌}
+use Rattle.std.proofs.Common.{◌∙◌, ap, refl, false, length, arith}
 use Rattle.hp_model.specs.WordOperations.{double_product}
 use Rattle.hp_control.specs.Controls.{control_of}
 use Rattle.jd_circuit.specs.declared.literals.Lit.TheVariants.{Const}

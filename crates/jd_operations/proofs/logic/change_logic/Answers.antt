@@ -1,4 +1,4 @@
-use Rattle.std.proofs.Common.{◌≡◌, ◌∙◌, ap}
+use Rattle.std.proofs.Common.{◌∙◌, ap}
 use Rattle.hp_ops.specs.Meaning.{of_logic}
 use Rattle.hp_control.specs.Controls.{control_of}
 use Rattle.jd_vectors.specs.Number.{number}

@@ -1,4 +1,4 @@
-use Rattle.std.proofs.Common.{◌≡◌, ◌-◌, ◌+◌, ◌^◌, length, ap, arith}
+use Rattle.std.proofs.Common.{◌≡◌, ◌-◌, ◌^◌, length, ap, arith}
 use Rattle.hp_model.specs.WordOperations.{plain}
 use Rattle.jd_vectors.specs.Number.{number}
 use Rattle.jd_operations.proofs.logic.inverted.Goals as goal

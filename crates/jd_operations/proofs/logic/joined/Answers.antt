@@ -1,4 +1,4 @@
-use Rattle.std.proofs.Common.{◌≡◌, ◌∙◌, ap}
+use Rattle.std.proofs.Common.{◌∙◌, ap}
 use Rattle.hp_model.specs.WordOperations.{plain}
 use Rattle.jd_operations.proofs.logic.joined.Goals as goal
 

@@ -1,4 +1,4 @@
-use Rattle.std.proofs.Common.{◌≡◌, ◌∙◌, refl}
+use Rattle.std.proofs.Common.{◌∙◌, refl}
 use Rattle.hp_control.specs.Controls.{control_of}
 use Rattle.jd_content.specs.Meaning.{data_on}
 use Rattle.jd_content.proofs.Contents.{fits_grow}

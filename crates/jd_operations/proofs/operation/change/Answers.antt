@@ -1,5 +1,4 @@
-use Rattle.std.proofs.Common.{◌≡◌, ap, length, refl}
-use Rattle.hp_ops.specs.Meaning.{operation}
+use Rattle.std.proofs.Common.{ap, length}
 use Rattle.hp_control.specs.Controls.{control_of}
 use Rattle.jd_content.proofs.Alone.{alone}
 use Rattle.jd_operations.proofs.Sizes.{arithmetic-size, bits-size, done_at, double-size, flags-size, logic-size, loop-size, registers-size, shift-size, stack-size}

@@ -1,4 +1,3 @@
-use Rattle.std.proofs.Common.{◌≡◌, refl}
 use Rattle.hp_control.specs.Controls.{control_of}
 use Rattle.jd_content.proofs.Alone.{alone}
 use Rattle.jd_operations.proofs.operation.change_registers.Goals as goal

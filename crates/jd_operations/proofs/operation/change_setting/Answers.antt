@@ -1,4 +1,4 @@
-use Rattle.std.proofs.Common.{◌≡◌, ap, length, refl}
+use Rattle.std.proofs.Common.{ap, length, refl}
 use Rattle.hp_control.specs.Controls.{control_of}
 use Rattle.jd_content.proofs.Alone.{alone}
 use Rattle.jd_operations.proofs.operation.change_setting.Goals as goal

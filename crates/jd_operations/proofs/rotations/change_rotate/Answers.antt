@@ -1,4 +1,4 @@
-use Rattle.std.proofs.Common.{◌≡◌, ◌∙◌, ap, refl}
+use Rattle.std.proofs.Common.{◌∙◌, ap, refl}
 use Rattle.hp_model.specs.Operations as ops
 use Rattle.hp_model.specs.State.{carry}
 use Rattle.hp_model.specs.DataStep.{of_x}

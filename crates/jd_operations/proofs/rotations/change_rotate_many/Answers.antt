@@ -1,4 +1,4 @@
-use Rattle.std.proofs.Common.{◌≡◌, ◌≤◌, ◌∙◌, ap, sym, subst, Some, None, length}
+use Rattle.std.proofs.Common.{◌≤◌, ◌∙◌, ap, sym, subst, length}
 use Rattle.hp_model.specs.Operations as ops
 use Rattle.hp_model.specs.State.{carry}
 use Rattle.hp_model.specs.Words.{magnitude}
@@ -7,7 +7,6 @@ use Rattle.hp_model.specs.DataStep.{of_two}
 use Rattle.hp_model.specs.WordOperations.{carrying, turned_times}
 use Rattle.hp_ops.specs.Meaning.{way}
 use Rattle.hp_control.specs.Controls.{control_of}
-use Rattle.jd_circuit.specs.Meaning.{lit_value}
 use Rattle.jd_circuit.proofs.Values.{grows_trans, solves_before}
 use Rattle.jd_vectors.specs.Number.{number}
 use Rattle.jd_content.specs.Meaning.{data_on}

@@ -1,4 +1,3 @@
-use Rattle.std.proofs.Common.{◌≡◌}
 use Rattle.jd_circuit.specs.Meaning.{lit_value}
 use Rattle.jd_operations.proofs.rotations.rotated.Goals as goal
 

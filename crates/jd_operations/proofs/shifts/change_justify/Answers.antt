@@ -1,4 +1,4 @@
-use Rattle.std.proofs.Common.{◌≡◌, ◌*◌, ◌%◌, ◌^◌, ◌∙◌, ap, refl, length}
+use Rattle.std.proofs.Common.{◌*◌, ◌%◌, ◌^◌, ◌∙◌, ap, refl, length}
 use Rattle.hp_model.specs.WordOperations.{left_shifts}
 use Rattle.hp_control.specs.Controls.{control_of}
 use Rattle.jd_vectors.specs.Number.{number}

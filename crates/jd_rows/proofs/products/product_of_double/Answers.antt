@@ -1,13 +1,8 @@
-use Rattle.std.proofs.Common.{◌≡◌, ◌+◌, ◌-◌, ◌*◌, ◌/◌, ◌%◌, ◌^◌, ◌<◌, ◌≤◌, length, sym, ap, ◌∙◌, not, refl, subst, arith}
+use Rattle.std.proofs.Common.{◌*◌, length, sym, ap, ◌∙◌}
 use Rattle.jd_circuit.specs.Meaning.{lit_value}
-use Rattle.jd_circuit.specs.Net.{variables}
 use Rattle.jd_circuit.proofs.Values.{solves_before}
-use Rattle.jd_circuit.proofs.SimpleGates.{value-opposite}
 use Rattle.jd_vectors.specs.Number.{number}
-use Rattle.jd_vectors.proofs.Kept.{all_of, one_of, grows_trans, IsLit-opposite}
-use Rattle.hp_model.specs.Words.{value, low, magnitude}
-use Rattle.hp_model.specs.WordOperations as rows
-use Rattle.jd_rows.specs.Answers.{AnswerFits, IsWord}
+use Rattle.hp_model.specs.Words.{low}
 use Rattle.jd_rows.specs.Answers.{with_sign}
 use Rattle.jd_rows.proofs.products.product_of_double.Goals as goal
 
