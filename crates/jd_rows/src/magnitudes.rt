@@ -29,10 +29,7 @@ pub fn negative<W: Rewrite>(c: &mut Circuit<'_, W>, mode: Mode, x: &Lits) -> Res
     match mode {
         Mode::Unsigned => negate(c, x),
         Mode::Twos => negate(c, x),
-        Mode::Ones => {
-            let _ = c.mark();
-            Ok(not_lits(x))
-        }
+        Mode::Ones => Ok(not_lits(x)),
     }
 }
 
@@ -120,10 +117,7 @@ pub fn magnitude<W: Rewrite>(
     ensures more { length c.new.gates ≤ length c.old.gates + 8 * length x.now }
 {
     match mode {
-        Mode::Unsigned => {
-            let _ = c.mark();
-            Ok((Lit::Const(false), x.copy()))
-        }
+        Mode::Unsigned => Ok((Lit::Const(false), x.copy())),
         Mode::Ones => magnitude_of_ones(c, x),
         Mode::Twos => magnitude_of_twos(c, x),
     }

@@ -91,10 +91,7 @@ pub fn negation<W: Rewrite>(
     match mode {
         Mode::Unsigned => negation_unsigned(c, x),
         Mode::Twos => negation_twos(c, x),
-        Mode::Ones => {
-            let _ = c.mark();
-            Ok(negation_ones(x))
-        }
+        Mode::Ones => Ok(negation_ones(x)),
     }
 }
 
