@@ -1,0 +1,4 @@
+pub mod Spelling
+pub mod AskedData
+pub mod SomeLiterals
+pub mod Examples

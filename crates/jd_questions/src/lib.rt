@@ -1,0 +1,13 @@
+//! What operations ask of contents of literals: which question is next, and the literal that is its
+//! answer.
+#![tactic(auto)]
+
+mod asking;
+mod literals;
+mod next;
+mod numbers;
+mod question;
+mod tests;
+
+// The literal of an operation's next question.
+pub use asking::asks;
