@@ -1,0 +1,5 @@
+pub mod Assumed
+pub mod Inputs
+pub mod Fields
+pub mod FieldsOfNibbles
+pub mod Examples
