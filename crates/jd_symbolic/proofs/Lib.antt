@@ -1,0 +1,3 @@
+pub mod Stepping
+pub mod OnBits
+pub mod Examples
