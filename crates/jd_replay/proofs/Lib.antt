@@ -1,4 +1,3 @@
 pub mod Allowed
-pub mod Observed
 pub mod PartPhrases
 pub mod TwoParts

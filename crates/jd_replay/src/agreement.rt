@@ -1,29 +1,15 @@
 // Whether two runs are seen the same, part by part, without the text of either.
 ghost use Rattle.std.specs.Prelude.{◌≡◌, ◌<◌, bytes_eq};
-ghost use Rattle.jd_model.specs.Seen.{same_end, agree_on};
+ghost use Rattle.jd_model.specs.Seen.{agree_on};
 ghost use Rattle.jd_start.specs.Parts.{marks_of};
 ghost use Rattle.jd_start.specs.Starts.{start_data};
-ghost use Rattle.jd_replay.specs.Agreement.{same_at, same_numbers, same_parts};
+ghost use Rattle.jd_agreement.specs.Agreement.{same_at, same_numbers, same_parts};
 ghost use Rattle.jd_replay.specs.Seen.{seen_of};
 
 use crate::seen::Seen;
-use hp_model::End;
+use jd_agreement::same_end;
 use jd_problem::Problem;
 use jd_start::{CONTENT_NUMBERS, Nibbles, Part, Parts, Start, content_numbers, part_at};
-
-/// Whether two runs end in the same way, errors with the same number.
-fn same_end(first: End, second: End) -> bool
-    ensures { result ≡ same_end first second }
-{
-    match first {
-        End::Return => matches!(second, End::Return),
-        End::Halt => matches!(second, End::Halt),
-        End::Error(number) => match second {
-            End::Error(other) => number == other,
-            _ => false,
-        },
-    }
-}
 
 /// Whether the numbers at a place are the same, if that part is observed.
 fn same_at(

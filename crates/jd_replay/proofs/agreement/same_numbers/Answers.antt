@@ -1,6 +1,6 @@
 use Rattle.std.proofs.Common.{◌∙◌, sym, arith}
 use Rattle.jd_start.specs.Parts.{marks_of}
-use Rattle.jd_replay.proofs.Observed.{same-left, same-stopped, same-at-end}
+use Rattle.jd_agreement.proofs.Observed.{same-left, same-stopped, same-at-end}
 use Rattle.jd_replay.proofs.agreement.same_numbers.Goals as goal
 
 pub returns-then-not-same_at : goal.returns-then-not-same_at

@@ -1,6 +1,6 @@
 use Rattle.std.proofs.Common.{◌≡◌, drop}
 use Rattle.jd_start.specs.Parts.{marks_of}
-use Rattle.jd_replay.specs.Agreement.{same_numbers}
+use Rattle.jd_agreement.specs.Agreement.{same_numbers}
 use Rattle.jd_replay.proofs.agreement.same_numbers.Given as goal
 
 abbrev pub invariant-loop-place : goal.invariant-loop-place

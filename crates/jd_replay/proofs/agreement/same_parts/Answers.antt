@@ -2,8 +2,8 @@ use Rattle.std.proofs.Common.{◌≡◌, ◌∙◌, ap, false, get_or, refl}
 use Rattle.jd_model.specs.Problems.{content_numbers}
 use Rattle.jd_start.specs.Parts.{marks_of}
 use Rattle.jd_start.specs.Starts.{start_data}
-use Rattle.jd_replay.specs.Agreement.{same_numbers}
-use Rattle.jd_replay.proofs.Observed.{parts-decided}
+use Rattle.jd_agreement.specs.Agreement.{same_numbers}
+use Rattle.jd_agreement.proofs.Observed.{parts-decided}
 use Rattle.jd_replay.proofs.agreement.same_parts.Goals as goal
 
 pub returns-then-not-contains : goal.returns-then-not-contains

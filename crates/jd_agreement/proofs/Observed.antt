@@ -8,7 +8,7 @@ use Rattle.hp_model.specs.WordOperations.{bit_number}
 use Rattle.hp_model.specs.State.{Data}
 use Rattle.jd_model.specs.Problems.{content_numbers}
 use Rattle.jd_model.specs.ProblemWriter.{chosen}
-use Rattle.jd_replay.specs.Agreement.{same_at, same_numbers, same_parts}
+use Rattle.jd_agreement.specs.Agreement.{same_at, same_numbers, same_parts}
 
 -- the numbers as parts, and the nibbles after them
 abbrev pub parts_with : List ℕ → List ℕ → List (List ℕ)
