@@ -33,10 +33,7 @@ pub fn asks<W: Rewrite, P: Program>(
         + asked_gates (asked_next (control_of control.now (P.listing program.now)) (operation op) given.now) }
 {
     match next_question(program.bytes(), op, given) {
-        None => {
-            let _ = c.mark();
-            Ok(None)
-        }
+        None => Ok(None),
         Some(question) => {
             let registers = register_count(program, control.size);
             let l = literal(c, content, control, registers, question)?;

@@ -155,10 +155,7 @@ pub fn literal<W: Rewrite>(
             let l = test_literal(c, mode, test, &content.y, &content.x)?;
             Ok(l)
         }
-        Question::Flag(number) => {
-            let _ = c.mark();
-            Ok(flag(content, number.number))
-        }
+        Question::Flag(number) => Ok(flag(content, number.number)),
         Question::XIsZero => {
             let l = zero_test(c, mode, &content.x)?;
             Ok(l)
@@ -199,10 +196,7 @@ pub fn literal<W: Rewrite>(
             let l = is_at_least(c, &content.i, 16)?;
             Ok(l)
         }
-        Question::IndexBit(place) => {
-            let _ = c.mark();
-            Ok(bit_at(&content.i, place as usize))
-        }
+        Question::IndexBit(place) => Ok(bit_at(&content.i, place as usize)),
         Question::MagnitudeBit(place) => {
             let l = magnitude_bit(c, mode, &content.x, place)?;
             Ok(l)

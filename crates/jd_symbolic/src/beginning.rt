@@ -72,7 +72,6 @@ impl SymMachine {
         ensures means { IfOk result (λ m. (bits : List Bool) → length bits ≡ c.new.inputs
             → data_on (val_of c.new bits) m.content ≡ start_of (problem_of problem.now) bits) }
     {
-        let _ = c.mark();
         let content = start_content(alloc, problem)?;
         Ok(SymMachine {
             control: beginning(problem),

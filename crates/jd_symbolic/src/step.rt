@@ -35,6 +35,7 @@ impl SymMachine {
     {
         let lines = Lines::new(self.codes.codes(), self.blocks, self.extent);
         let asked = asks(c, &self.content, &self.control, &lines, op, given)?;
+        // Each gate stands on variables before its own, so on a list of bits all have their values.
         let _ = c.mark();
         Ok(asked)
     }
@@ -59,12 +60,10 @@ impl SymMachine {
     {
         let lines = Lines::new(self.codes.codes(), self.blocks, self.extent);
         match error_of(&self.control, &lines, op, given) {
-            Some(error) => {
-                let _ = c.mark();
-                Ok(fail(&mut self.control, error))
-            }
+            Some(error) => Ok(fail(&mut self.control, error)),
             None => {
                 change(c, &mut self.content, &self.control, op, given)?;
+                // As for a question: on a list of bits all gates have their values.
                 let _ = c.mark();
                 Ok(step_done(&mut self.control, &lines, op, given))
             }

@@ -38,4 +38,4 @@ returns-in_ok-change-in-None-clause-steps g c =
 
 pub returns-in_ok-change-in-None-clause-on_bits : goal.returns-in_ok-change-in-None-clause-on_bits
 returns-in_ok-change-in-None-clause-on_bits g c =
-    step_on_bits _ _ _ _ _ _ _ c.requires.stands c.mark-in-None.ensures.wired c.in_ok-change-in-None.ensures.grows (returns-in_ok-change-in-None-clause-steps g c)
+    step_on_bits _ _ _ _ _ _ _ c.requires.stands c.mark.ensures.wired c.in_ok-change-in-None.ensures.grows (returns-in_ok-change-in-None-clause-steps g c)
