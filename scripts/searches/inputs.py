@@ -1,7 +1,9 @@
+#!/usr/bin/env python3
 """The inputs of the program try_provers, whose answers other solvers give.
 
-usage: inputs.py write                  writes the crate's stdin and stdout
-       inputs.py pipe PROGRAM HP16C     lets the built PROGRAM prove each input, and HP16C check what it wrote
+usage, at the top of the repository:
+    scripts/searches/inputs.py write                  writes the crate's stdin and stdout
+    scripts/searches/inputs.py pipe PROGRAM HP16C     lets the built PROGRAM prove each input, and HP16C check what it wrote
 
 `write` asks minisat, cadical and picosat, which must agree. `pipe` also checks logs and models here.
 """

@@ -1,6 +1,8 @@
+#!/usr/bin/env python3
 """Times the searches of the built program try_provers beside other solvers, in one run.
 
-usage: times.py PROGRAM
+usage, at the top of the repository:
+    scripts/searches/times.py PROGRAM
 
 Prints a line for each CNF: processor seconds of the learning search, of minisat and of cadical, the
 best of five runs each, and the lines of its log beside cadical's conflicts. A program's time has its
