@@ -1,0 +1,10 @@
+pub mod Answering
+pub mod NextLines
+pub mod Turning
+pub mod Standing
+pub mod Noes
+pub mod Keeping
+pub mod Going
+pub mod Ends
+pub mod Nexts
+pub mod Leaving

@@ -1,0 +1,77 @@
+use Rattle.std.proofs.Common.{◌≡◌, ◌-◌, true, drop, length, sym, take, arith, subst}
+use Rattle.hp_model.specs.Questions.{are_complete}
+use Rattle.jd_books.specs.Paths.{line_questions}
+use Rattle.jd_symbolic.specs.Machine.{state_of}
+use Rattle.jd_walk.specs.NextLine.{LineSteps, StandsAtLine}
+use Rattle.jd_walk.specs.declared.runs.Reach.TheVariants.{Ask}
+use Rattle.jd_walk.specs.Spots.{IsPlaced, IsReached}
+use Rattle.jd_walk.proofs.Answering.{placed-at_line, so-far-all}
+use Rattle.jd_walk.proofs.NextLines.{memory-kept, stands-on}
+use Rattle.jd_walk.proofs.Turning.{asked-is, reached-ask, reached-end, reached-late, rest-is, stepped-is, turned-go, with-machine}
+use Rattle.jd_walk.proofs.Ends.{placed-grown, stands-grown}
+use Rattle.jd_walk.proofs.runs.turn.Goals as goal
+
+pub line_step-requires-clause-stands : goal.line_step-requires-clause-stands
+line_step-requires-clause-stands g c =
+    let at = c.args.at.now in
+    subst (StandsAtLine c.line_asks.new.c) (sym c.in_ok-l.ensures.machine)
+    (record { stands = stands-grown c.args.c.now c.line_asks.new.c at.machine c.in_ok-l.ensures.grows c.requires.machine.stands; line = c.requires.machine.line })
+
+pub line_step-requires-clause-complete : goal.line_step-requires-clause-complete
+line_step-requires-clause-complete g c =
+    let at = c.args.at.now in
+    let asks = asked-is c.line_asks.new.c at.machine at.from c.args.path.now c.in_ok-l.field-0 c.in_ok-l.ensures.asks in
+    subst (λ m. are_complete (line_questions (state_of m)) (take (length c.args.path.now - at.from) (drop at.from c.args.path.now)) ≡ true) (sym c.in_ok-l.ensures.machine)
+    (subst (λ given. are_complete (line_questions (state_of at.machine)) given ≡ true) (sym (rest-is at.from c.args.path.now))
+    (so-far-all (line_questions (state_of at.machine)) (drop at.from c.args.path.now) c.requires.so_far (asks.none c.in_default.is)))
+
+pub returns-then-at-eq0-clause-turned : goal.returns-then-at-eq0-clause-turned
+returns-then-at-eq0-clause-turned g c = λ p second n h. reached-late p second c.args.c.now c.args.path.now c.args.at.now (omega (arith, c.if-at-eq0.true)) h
+
+pub returns-in-Some-clause-stands : goal.returns-in-Some-clause-stands
+returns-in-Some-clause-stands g c =
+    with-machine (IsPlaced c.line_asks.new.c c.args.path.now) c.args.at.now c.line_asks.new.machine c.in_ok-l.ensures.machine
+    (placed-grown c.args.c.now c.line_asks.new.c c.args.path.now c.args.at.now c.in_ok-l.ensures.grows c.requires)
+
+pub returns-in-Some-clause-turned : goal.returns-in-Some-clause-turned
+returns-in-Some-clause-turned g c = λ p second n h.
+    let at = c.args.at.now in
+    with-machine (λ k. IsReached p second c.line_asks.new.c c.args.path.now k (Ask c.in-Some.l)) at c.line_asks.new.machine c.in_ok-l.ensures.machine
+    (reached-ask p second c.args.c.now c.line_asks.new.c c.args.path.now at c.in_ok-l.field-0 c.in-Some.l n c.in_ok-l.ensures.grows c.in_ok-l.ensures.wired c.requires.machine.stands
+    (omega (arith, c.if-at-eq0.false)) (asked-is c.line_asks.new.c at.machine at.from c.args.path.now c.in_ok-l.field-0 c.in_ok-l.ensures.asks) c.in-Some.is h)
+
+pub returns-in-Ended-clause-turned : goal.returns-in-Ended-clause-turned
+returns-in-Ended-clause-turned g c = λ p second n h.
+    let at = c.args.at.now in
+    reached-end p second c.args.c.now c.line_asks.new.c c.line_step.new.c c.args.path.now at c.line_step.new.machine c.in_ok-l.field-0 c.in_ok-stop.stop c.in-Ended.end n
+    c.in_ok-l.ensures.grows c.in_ok-stop.ensures.grows c.in_ok-stop.ensures.wired c.requires.machine.stands (omega (arith, c.if-at-eq0.false))
+    (asked-is c.line_asks.new.c at.machine at.from c.args.path.now c.in_ok-l.field-0 c.in_ok-l.ensures.asks) c.in_default.is
+    (stepped-is c.line_step.new.c at.machine c.line_asks.new.machine c.line_step.new.machine at.from c.args.path.now c.in_ok-stop.stop c.in_ok-l.ensures.machine c.in_ok-stop.ensures.steps) c.in-Ended.is h
+
+pub returns-in-Ended-clause-memory : goal.returns-in-Ended-clause-memory
+returns-in-Ended-clause-memory g c =
+    let at = c.args.at.now in
+    memory-kept c.line_step.new.c at.machine c.line_step.new.machine (drop at.from c.args.path.now) c.in_ok-stop.stop
+    (stepped-is c.line_step.new.c at.machine c.line_asks.new.machine c.line_step.new.machine at.from c.args.path.now c.in_ok-stop.stop c.in_ok-l.ensures.machine c.in_ok-stop.ensures.steps)
+
+pub returns-in-Go-clause-stands : goal.returns-in-Go-clause-stands
+returns-in-Go-clause-stands g c =
+    let at = c.args.at.now in
+    let steps = stepped-is c.line_step.new.c at.machine c.line_asks.new.machine c.line_step.new.machine at.from c.args.path.now c.in_ok-stop.stop c.in_ok-l.ensures.machine c.in_ok-stop.ensures.steps in
+    placed-at_line c.line_step.new.c c.args.path.now c.line_step.new.machine (at.left - 1)
+    (stands-on c.args.c.now c.line_step.new.c at.machine c.line_step.new.machine (drop at.from c.args.path.now) c.requires.machine.stands
+    (subst (LineSteps c.line_step.new.c at.machine c.line_step.new.machine (drop at.from c.args.path.now)) c.in-Go.is steps))
+
+pub returns-in-Go-clause-memory : goal.returns-in-Go-clause-memory
+returns-in-Go-clause-memory g c =
+    let at = c.args.at.now in
+    memory-kept c.line_step.new.c at.machine c.line_step.new.machine (drop at.from c.args.path.now) c.in_ok-stop.stop
+    (stepped-is c.line_step.new.c at.machine c.line_asks.new.machine c.line_step.new.machine at.from c.args.path.now c.in_ok-stop.stop c.in_ok-l.ensures.machine c.in_ok-stop.ensures.steps)
+
+pub returns-in-Go-clause-turned : goal.returns-in-Go-clause-turned
+returns-in-Go-clause-turned g c = λ p second n h.
+    let at = c.args.at.now in
+    turned-go p second c.args.c.now c.line_asks.new.c c.line_step.new.c c.args.path.now at c.line_step.new.machine c.in_ok-l.field-0 c.in_ok-stop.stop n
+    c.in_ok-l.ensures.grows c.in_ok-stop.ensures.grows c.in_ok-stop.ensures.wired c.requires.machine.stands (omega (arith, c.if-at-eq0.false))
+    (asked-is c.line_asks.new.c at.machine at.from c.args.path.now c.in_ok-l.field-0 c.in_ok-l.ensures.asks) c.in_default.is
+    (stepped-is c.line_step.new.c at.machine c.line_asks.new.machine c.line_step.new.machine at.from c.args.path.now c.in_ok-stop.stop c.in_ok-l.ensures.machine c.in_ok-stop.ensures.steps) c.in-Go.is h

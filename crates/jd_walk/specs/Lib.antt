@@ -1,0 +1,4 @@
+pub mod NextLine
+pub mod Spots
+pub mod Walked
+pub mod Taken

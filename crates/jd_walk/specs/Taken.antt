@@ -1,0 +1,24 @@
+-- The leaf of a walk's path.
+use Rattle.std.specs.Prelude.{◌≡◌, true, Option, Some, None}
+use Rattle.jd_circuit.specs.declared.literals.Lit.{Lit}
+use Rattle.jd_circuit.specs.declared.literals.Lit.TheVariants.{Const}
+use Rattle.jd_trees.specs.declared.Kind.{Kind}
+use Rattle.jd_trees.specs.declared.Kind.TheVariants.{Whole, Cut}
+use Rattle.jd_books.specs.Leaves.{Leaf, IsFaithful}
+use Rattle.jd_walk.specs.declared.places.Next.{Next}
+use Rattle.jd_walk.specs.declared.places.Next.TheVariants.{Done}
+use Rattle.jd_walk.specs.Walked.{Walked}
+
+-- the literal of the difference where the leaf is whole
+abbrev pub diff_at : Option Next → Kind → Lit
+diff_at (Some (Done l)) Whole = l
+diff_at _ _ = Const true
+
+-- a faithful leaf of a walk's path, with all gates of its circuit
+pub record IsLeafOf (w : Walked) (kind : Kind) (l : Leaf) : Type 0 where
+  pub path : l.path ≡ w.path
+  pub kind_is : l.kind ≡ kind
+  pub gates : l.gates ≡ w.net.gates
+  pub guards : l.guards ≡ w.guards
+  pub diff : l.diff ≡ diff_at w.next kind
+  pub faithful : IsFaithful w.problem l

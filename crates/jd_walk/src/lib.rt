@@ -1,0 +1,14 @@
+//! Walks through the runs of two routines, answer by answer, and the leaves where they end.
+#![tactic(auto)]
+
+mod begins;
+mod calls;
+mod leaves;
+mod lines;
+mod places;
+mod runs;
+mod walks;
+
+pub use jd_leaves::{Book, Guards, Kind, Leaf, Path};
+pub use places::Next;
+pub use walks::Walk;
