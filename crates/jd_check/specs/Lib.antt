@@ -1,0 +1,4 @@
+pub mod Events
+pub mod Progress
+pub mod Runs
+pub mod Laws
