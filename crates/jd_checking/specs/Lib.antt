@@ -1,0 +1,5 @@
+pub mod Inputs
+pub mod SourceChecks
+pub mod CertChecks
+pub mod Finds
+pub mod WorkedInputs
