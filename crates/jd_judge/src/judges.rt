@@ -1,0 +1,35 @@
+//! The judge.
+ghost use Rattle.std.specs.Prelude.{◌≡◌, IfOk};
+ghost use Rattle.jd_problem.specs.Problems.{problem_of};
+ghost use Rattle.jd_judge.specs.Judging.{IsJudged};
+
+use crate::outcomes::{Judged, Judging, Step};
+use crate::starts::Starts;
+use crate::steps::step;
+use hp_io::NoMemory;
+use jd_problem::Problem;
+use jd_rules::RuleSet;
+use jd_walk::{Book, Walk};
+use std::alloc::Global;
+
+/// Judges a problem: walks all paths to which an allowed start comes, a cut standing where none does.
+pub fn judge(alloc: Global, problem: &Problem, rules: &RuleSet) -> Result<Judged, NoMemory>
+    ensures { IfOk result (IsJudged (problem_of problem.now)) }
+{
+    // The blocks say that the problem is in its ranges.
+    let _ = problem.blocks();
+    let mut judging = Judging {
+        walk: Walk::new(alloc, problem, rules)?,
+        book: Book::new(alloc),
+        nodes: Vec::new(alloc),
+        starts: Starts::new(alloc),
+        witness: None,
+    };
+    'places: for _ in 0..u64::MAX {
+        match step(alloc, problem, judging)? {
+            Step::Go(next) => judging = next,
+            Step::Over(judged) => return Ok(judged),
+        }
+    }
+    Err(NoMemory)
+}
