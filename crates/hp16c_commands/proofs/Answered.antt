@@ -9,7 +9,7 @@ use Rattle.hp_model.specs.Session as ends
 use Rattle.hp_session.specs.Steps.{shown}
 use Rattle.hp_session.specs.Ends.{session_so_far, BeforeLastRead, WasRefused, WasCutOff}
 use Rattle.hp16c_commands.specs.declared.outcomes.Status.{Status}
-use Rattle.hp16c_commands.specs.declared.outcomes.Status.TheVariants.{Done, Different, Usage, BadInput, Limit, ReadFault, WriteFault, NoMemory, CertRefused}
+use Rattle.hp16c_commands.specs.declared.outcomes.Status.TheVariants.{Done, Different, Unknown, Usage, BadInput, Limit, ReadFault, WriteFault, NoMemory, CertRefused, TooManyPaths}
 use Rattle.hp16c_commands.specs.Keys.{WasAnswered, WasCut, IfAnswer, KeysTold, TakenTo, keys_status, keys_text, last_words, status_of_end}
 
 -- where the status is the answer, the last line was written
@@ -102,3 +102,5 @@ told_both (Some bytes) w0 w1 status is put = both status is put
     both Limit is put = record { status_is = is; put = put }
     both NoMemory is put = record { status_is = is; put = put }
     both CertRefused is put = record { status_is = is; put = put }
+    both Unknown is put = record { status_is = is; put = put }
+    both TooManyPaths is put = record { status_is = is; put = put }

@@ -1,4 +1,7 @@
-pub mod AnswerOutcomes
+pub mod AnswerEnds
+pub mod AnswersGiven
+pub mod Generated
+pub mod InTwoParts
 pub mod Answered
 pub mod CutShort
-pub mod Replayed
+pub mod AfterProblem

@@ -3,6 +3,12 @@ pub mod Commands
 pub mod Refusals
 pub mod Keys
 pub mod Answers
+pub mod Told
+pub mod Answered
+pub mod Paths
+pub mod Judge
+pub mod Check
+pub mod Generate
 pub mod Lrat
 pub mod Assemble
 pub mod List

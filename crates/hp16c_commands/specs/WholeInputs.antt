@@ -1,12 +1,11 @@
 -- What the commands that read their whole input answer, keep and write.
-use Rattle.std.specs.Prelude.{◌≡◌, ◌≢◌, ℕ, ◌+◌, ◌<◌, ◌≤◌, List, ◌++◌, length, Option, ⊤, ◌⊎◌}
+use Rattle.std.specs.Prelude.{◌≡◌, ℕ, ◌+◌, ◌<◌, ◌≤◌, Bool, true, false, ◌||◌, List, ◌++◌, length, Option, ⊤, ◌⊎◌}
 use Rattle.std.specs.Io.KnownBytes.{Appends}
 use Rattle.hp_io.specs.Limited.{IsRest, Takes}
 use Rattle.jd_logic.specs.LratCommand as lrat_command
-use Rattle.hp16c_commands.specs.declared.outcomes.Kept.TheVariants.{Nothing}
 use Rattle.hp16c_commands.specs.declared.outcomes.Outcome.{Outcome}
 use Rattle.hp16c_commands.specs.declared.outcomes.Status.{Status}
-use Rattle.hp16c_commands.specs.declared.outcomes.Status.TheVariants.{Different, Usage, ReadFault, WriteFault, NoMemory, CertRefused}
+use Rattle.hp16c_commands.specs.declared.outcomes.Status.TheVariants.{Done, Different, Unknown, Usage, BadInput, Limit, ReadFault, WriteFault, NoMemory, CertRefused, TooManyPaths}
 use Rattle.hp16c_commands.specs.declared.whole_inputs.WholeInput.{WholeInput}
 use Rattle.hp16c_commands.specs.declared.whole_inputs.WholeInput.TheVariants as inputs
 use Rattle.hp16c_commands.specs.Answers.{Answer, too_long}
@@ -14,6 +13,8 @@ use Rattle.hp16c_commands.specs.Lrat.{lrat_answer}
 use Rattle.hp16c_commands.specs.Assemble.{asm_answer}
 use Rattle.hp16c_commands.specs.List.{list_answer}
 use Rattle.hp16c_commands.specs.Replay.{replay_answer}
+use Rattle.hp16c_commands.specs.Judge.{JudgeAnswers}
+use Rattle.hp16c_commands.specs.Check.{CheckAnswers}
 
 -- the greatest input, in bytes
 abbrev pub limit_of : WholeInput → ℕ
@@ -21,13 +22,17 @@ limit_of inputs.Lrat = lrat_command.limit
 limit_of inputs.Assemble = 65_536
 limit_of inputs.List = 65_536
 limit_of inputs.Replay = 131_072
+limit_of inputs.Judge = 65_536
+limit_of inputs.Check = 268_500_992
 
--- an answer to bytes within the limit. That of each command here is a function of the bytes
+-- an answer to bytes within the limit. That of `judge` and of `check` keeps more than the bytes decide
 abbrev pub Answers : WholeInput → List ℕ → Answer → Type 0
 Answers inputs.Lrat bytes answer = answer ≡ lrat_answer bytes
 Answers inputs.Assemble bytes answer = answer ≡ asm_answer bytes
 Answers inputs.List bytes answer = answer ≡ list_answer bytes
 Answers inputs.Replay bytes answer = answer ≡ replay_answer bytes
+Answers inputs.Judge bytes answer = JudgeAnswers bytes answer
+Answers inputs.Check bytes answer = CheckAnswers bytes answer
 
 -- an answer to any bytes: the limit is looked at first
 pub data IsAnswerTo (command : WholeInput) (bytes : List ℕ) (answer : Answer) : Type 0 where
@@ -88,12 +93,26 @@ IfGiven WriteFault P = ⊤
 IfGiven NoMemory P = ⊤
 IfGiven _ P = P
 
--- what holds of each answer: its status is no fault, and something is kept only of a proof that isn't right
-pub record IsOutcomeOf (command : WholeInput) (outcome : Outcome) : Type 0 where
-  pub no_usage : outcome.status ≢ Usage
-  pub no_read_fault : outcome.status ≢ ReadFault
-  pub no_write_fault : outcome.status ≢ WriteFault
-  pub no_lack : outcome.status ≢ NoMemory
-  pub difference : outcome.status ≡ Different → command ≡ inputs.Replay
-  pub certificate : outcome.status ≡ CertRefused → command ≡ inputs.Lrat
-  pub kept : outcome.status ≢ CertRefused → outcome.kept ≡ Nothing
+-- which statuses an answer to a command may have
+abbrev pub is_answer_of : WholeInput → Status → Bool
+is_answer_of _ Done = true
+is_answer_of _ BadInput = true
+is_answer_of _ Limit = true
+is_answer_of inputs.Replay Different = true
+is_answer_of inputs.Judge Different = true
+is_answer_of inputs.Judge Unknown = true
+is_answer_of inputs.Judge TooManyPaths = true
+is_answer_of inputs.Lrat CertRefused = true
+is_answer_of inputs.Check CertRefused = true
+is_answer_of _ _ = false
+
+-- statuses with which nothing is answered, so that nothing is kept
+abbrev pub is_fault : Status → Bool
+is_fault ReadFault = true
+is_fault WriteFault = true
+is_fault NoMemory = true
+is_fault _ = false
+
+-- which statuses a command may end with
+abbrev pub can_end : WholeInput → Status → Bool
+can_end command status = is_fault status || is_answer_of command status

@@ -23,6 +23,8 @@ pub fn keys<S: Source, K: Sink>(source: &mut S, sink: &mut K) -> Status
     ensures no_memory { result ≢ Status.NoMemory }
     ensures no_certificate { result ≢ Status.CertRefused }
     ensures no_difference { result ≢ Status.Different }
+    ensures no_unknown { result ≢ Status.Unknown }
+    ensures no_paths { result ≢ Status.TooManyPaths }
     ensures read_cause { result ≡ Status.ReadFault → Rose (S.faults source.old) (S.faults source.new) }
     ensures write_cause { result ≡ Status.WriteFault → Rose (K.faults sink.old) (K.faults sink.new) }
     ensures told_status { IfSome (S.left source.old) (λ bytes. IfAnswer result (result ≡ keys_status bytes)) }

@@ -5,14 +5,20 @@
 //! - Doing what the words say: `hp16c`, which gives an `Outcome` of a `Status` and what is `Kept`.
 #![tactic(auto)]
 
+mod after_problem;
 mod answers;
+mod checking;
 mod commands;
+mod generating;
+mod judging;
 mod key_files;
 mod lrat;
 mod outcomes;
+mod path_texts;
 mod refusals;
 mod replays;
 mod routines;
+mod told;
 mod top_call;
 mod whole_inputs;
 

@@ -1,10 +1,11 @@
 // The command `lrat`.
 ghost use Rattle.std.specs.Prelude.{◌≡◌, ◌≤◌, length, IfOk};
 ghost use Rattle.hp16c_commands.specs.Lrat.{status_of_verdict, kept_of_verdict, lrat_answer};
+ghost use Rattle.hp16c_commands.specs.Answered.{answer_of};
 ghost use Rattle.hp16c_commands.specs.WholeInputs.{limit_of};
 
-use crate::answers::Answer;
 use crate::outcomes::{Kept, Outcome, Status};
+use crate::told::Answer;
 use crate::whole_inputs::WholeInput;
 use hp_io::Bytes;
 use jd_lrat::{Verdict, check_text};
@@ -33,16 +34,14 @@ fn kept_of(verdict: Verdict) -> Kept
 /// It takes memory for the clauses.
 pub fn check_proof(alloc: Global, bytes: &Bytes) -> Result<Answer, AllocError>
     requires { length bytes.now ≤ limit_of WholeInput.Lrat }
-    ensures { IfOk result (λ answer. answer ≡ lrat_answer bytes.now) }
+    ensures { IfOk result (λ answer. answer_of answer ≡ lrat_answer bytes.now) }
 {
     let Ok(verdict) = check_text(alloc, bytes.as_slice()) else {
         return Err(AllocError);
     };
-    Ok(Answer {
-        outcome: Outcome {
-            status: status_of(verdict),
-            kept: kept_of(verdict),
-        },
-        text: format!(in alloc; "{verdict}\n")?,
-    })
+    let outcome = Outcome {
+        status: status_of(verdict),
+        kept: kept_of(verdict),
+    };
+    Ok(Answer::with(outcome, format!(in alloc; "{verdict}\n")?))
 }

@@ -3,15 +3,21 @@ ghost use Rattle.std.specs.Prelude.{◌≡◌, is_ok, if◌then◌else◌};
 ghost use Rattle.hp16c_commands.specs.Statuses.{number_of};
 
 use hp_io::Failed;
-use jd_logic::BadLine;
+use jd_cert::Cert;
+use jd_judge::{Book, Leaf, Path, Starts};
+use jd_logic::{BadLine, Log};
+use jd_problem::Start;
 
 /// How a command ends. The program ends with the status's number.
 #[derive(Clone, Copy, Debug, PartialEq, Eq)]
 pub enum Status {
     /// The command's good answer is written.
     Done,
-    /// `replay`: the two routines don't agree from this start.
+    /// The two routines don't agree from a start: the one that `replay` was given, or that `judge`
+    /// found.
     Different,
+    /// `judge`: a question that the problem's budget of lines didn't decide.
+    Unknown,
     /// The words are no command.
     Usage,
     /// The input isn't in the command's grammar.
@@ -24,8 +30,11 @@ pub enum Status {
     WriteFault,
     /// Memory was refused.
     NoMemory,
-    /// A proof has a line that isn't right, or doesn't refute its clauses.
+    /// A proof or a certificate has a line that isn't right, or doesn't refute its clauses, or a
+    /// certificate doesn't cover every path.
     CertRefused,
+    /// `judge`: there are more paths than the problem allows.
+    TooManyPaths,
 }
 
 impl Status {
@@ -36,6 +45,7 @@ impl Status {
         match self {
             Status::Done => 0,
             Status::Different => 1,
+            Status::Unknown => 2,
             Status::Usage => 3,
             Status::BadInput => 4,
             Status::Limit => 5,
@@ -43,6 +53,7 @@ impl Status {
             Status::WriteFault => 7,
             Status::NoMemory => 8,
             Status::CertRefused => 9,
+            Status::TooManyPaths => 10,
         }
     }
 
@@ -58,15 +69,42 @@ impl Status {
 }
 
 /// What a command keeps beside the text that it writes.
-#[derive(Debug, Drop)]
+#[derive(Drop)]
 pub enum Kept {
     Nothing,
+    /// Of `judge` and `gen`: the leaves and the certificate by which the two routines agree.
+    Judged(Book, Cert),
+    /// Of `check`: the leaves by which the certificate that was read shows that they agree.
+    Checked(Book),
+    /// An allowed start from which the two routines don't agree.
+    Start(Start),
+    /// The leaf that the budget didn't decide, and the lines that it took.
+    Log(Leaf, Log),
+    /// One more allowed start than the problem has paths, each with answers of its own.
+    Starts(Starts),
+    /// The first path at which the certificate's tree doesn't cover.
+    Shape(Path),
+    /// The first line of a covering certificate that isn't right, counted from 1 in its leaf or cut.
+    Refused {
+        book: Book,
+        path: Path,
+        line: u64,
+        cause: BadLine,
+    },
+    /// The first leaf or cut that isn't refuted, where the tree covers and every line is right.
+    More {
+        book: Book,
+        path: Path,
+    },
     /// The first line of a proof that isn't right, counted from 1, and its cause.
-    Proof { line: u64, cause: BadLine },
+    Proof {
+        line: u64,
+        cause: BadLine,
+    },
 }
 
 /// The status of a command, and what it keeps.
-#[derive(Debug, Drop)]
+#[derive(Drop)]
 pub struct Outcome {
     pub status: Status,
     pub kept: Kept,

@@ -7,16 +7,17 @@ ghost use Rattle.jd_problem.specs.Problems.{problem_of};
 ghost use Rattle.jd_problem.specs.ProblemTexts.{IsProblemTo};
 ghost use Rattle.jd_start.specs.Starts.{start_data};
 ghost use Rattle.hp16c_commands.specs.Answers.{told};
+ghost use Rattle.hp16c_commands.specs.Answered.{answer_of};
 ghost use Rattle.hp16c_commands.specs.WholeInputs.{limit_of};
 ghost use Rattle.hp16c_commands.specs.Replay.{status_of_agreement, replay_answer};
 
-use crate::answers::Answer;
-use crate::outcomes::Status;
+use crate::after_problem::line_after;
+use crate::outcomes::{Outcome, Status};
+use crate::told::Answer;
 use crate::whole_inputs::WholeInput;
 use hp_io::Bytes;
 use jd_problem::{Problem, Start, read_problem, read_start};
 use jd_replay::{agree, replay, seen_text};
-use jd_text::count_lines;
 use std::alloc::{AllocError, Global};
 
 /// The status of a replay.
@@ -47,7 +48,7 @@ fn read_start_after(problem: &Problem, bytes: &[u8], count: usize) -> Result<Sta
 {
     match read_start(problem, &bytes[count..]) {
         Ok(start) => Ok(start),
-        Err(fault) => Err(count_lines(&bytes[..count]) as u64 + u64::from(fault.line)),
+        Err(fault) => Err(line_after(bytes, count, fault.line)),
     }
 }
 
@@ -70,7 +71,7 @@ fn read_input(bytes: &[u8]) -> Result<(Problem, Start), u64>
 /// What is seen of both routines from a start, and whether they agree.
 fn replay_from(alloc: Global, problem: &Problem, start: &Start) -> Result<Answer, AllocError>
     requires { allows (problem_of problem.now) (start_data start.now) ≡ true }
-    ensures { IfOk result (λ answer. answer ≡ told (status_of_agreement (agree (problem_of problem.now) (start_data start.now)))
+    ensures { IfOk result (λ answer. answer_of answer ≡ told (status_of_agreement (agree (problem_of problem.now) (start_data start.now)))
         (replay_text (problem_of problem.now) (start_data start.now))) }
 {
     let (first, second) = replay(problem, start);
@@ -80,13 +81,13 @@ fn replay_from(alloc: Global, problem: &Problem, start: &Start) -> Result<Answer
     text.push_str("second")?;
     text.push_str(seen_text(problem, &second).as_str())?;
     text.push_str(verdict(agreed))?;
-    Answer::of(alloc, status_of(agreed), text.as_str())
+    Ok(Answer::with(Outcome::of(status_of(agreed)), text))
 }
 
 /// A replay of the start that follows a problem, for the bytes of both.
 pub fn replay_start(alloc: Global, bytes: &Bytes) -> Result<Answer, AllocError>
     requires { length bytes.now ≤ limit_of WholeInput.Replay }
-    ensures { IfOk result (λ answer. answer ≡ replay_answer bytes.now) }
+    ensures { IfOk result (λ answer. answer_of answer ≡ replay_answer bytes.now) }
 {
     match read_input(bytes.as_slice()) {
         Ok((problem, start)) => replay_from(alloc, &problem, &start),

@@ -2,10 +2,11 @@
 ghost use Rattle.std.specs.Prelude.{◌≡◌, ◌≤◌, length, IfOk};
 ghost use Rattle.hp16c_commands.specs.Assemble.{asm_answer};
 ghost use Rattle.hp16c_commands.specs.List.{list_answer};
+ghost use Rattle.hp16c_commands.specs.Answered.{answer_of};
 ghost use Rattle.hp16c_commands.specs.WholeInputs.{limit_of};
 
-use crate::answers::Answer;
 use crate::outcomes::Status;
+use crate::told::Answer;
 use crate::whole_inputs::WholeInput;
 use hp_asm::{assemble, codes, list, read_codes};
 use hp_io::Bytes;
@@ -14,7 +15,7 @@ use std::alloc::{AllocError, Global};
 /// The codes of a routine, for its bytes as assembly.
 pub fn assemble_routine(alloc: Global, bytes: &Bytes) -> Result<Answer, AllocError>
     requires { length bytes.now ≤ limit_of WholeInput.Assemble }
-    ensures { IfOk result (λ answer. answer ≡ asm_answer bytes.now) }
+    ensures { IfOk result (λ answer. answer_of answer ≡ asm_answer bytes.now) }
 {
     match assemble(bytes.as_slice()) {
         Ok(routine) => Answer::of(alloc, Status::Done, codes(&routine).as_str()),
@@ -25,7 +26,7 @@ pub fn assemble_routine(alloc: Global, bytes: &Bytes) -> Result<Answer, AllocErr
 /// The assembly of a routine, for its bytes as codes.
 pub fn list_routine(alloc: Global, bytes: &Bytes) -> Result<Answer, AllocError>
     requires { length bytes.now ≤ limit_of WholeInput.List }
-    ensures { IfOk result (λ answer. answer ≡ list_answer bytes.now) }
+    ensures { IfOk result (λ answer. answer_of answer ≡ list_answer bytes.now) }
 {
     match read_codes(bytes.as_slice()) {
         Ok(routine) => Answer::of(alloc, Status::Done, list(&routine).as_str()),

@@ -1,25 +1,30 @@
 // The call that does what the words of the program ask for.
-ghost use Rattle.std.specs.Prelude.{◌≡◌, ◌≢◌, ◌+◌, ◌≤◌, ◌↔◌, map, Some, None, IfSome};
+ghost use Rattle.std.specs.Prelude.{◌≡◌, ℕ, true, ◌+◌, ◌≤◌, ◌↔◌, map, Some, None, IfSome};
 ghost use Rattle.hp_io.specs.Causes.{CallsAtMost, Rose};
 ghost use Rattle.hp_model.specs.Session.{byte_limit};
 ghost use Rattle.hp16c_commands.specs.Commands.{AreWordsOf, IsNoCommand};
 ghost use Rattle.hp16c_commands.specs.Keys.{KeysDid, KeysTold, IfAnswer, keys_status};
-ghost use Rattle.hp16c_commands.specs.WholeInputs.{limit_of, Did, WasTold, IfGiven};
+ghost use Rattle.hp16c_commands.specs.WholeInputs.{limit_of, Did, WasTold, IfGiven, can_end, is_fault};
+ghost use Rattle.hp16c_commands.specs.Generate.{GenerateDid};
 
 use crate::commands::Command;
+use crate::generating::generate_and_judge;
 use crate::key_files::keys;
 use crate::outcomes::{Kept, Outcome, Status};
 use crate::whole_inputs::{WholeInput, answer_input};
 use hp_io::{Sink, Source};
+use jd_rules::RuleSet;
 use std::alloc::Global;
 
 /// Does the command that the words are, which are those after the program's name. The command reads
-/// from the source and writes to the sink.
+/// from the source and writes to the sink. The judge's circuits ask the rules; all that is said here
+/// holds whatever rules they are.
 pub fn hp16c<S: Source, K: Sink>(
     alloc: Global,
     words: &[String],
     source: &mut S,
     sink: &mut K,
+    rules: &RuleSet,
 ) -> Outcome
     // Words that are no command.
     ensures usage { result.status ≡ Status.Usage ↔ IsNoCommand words.now }
@@ -47,11 +52,17 @@ pub fn hp16c<S: Source, K: Sink>(
         (WasTold command bytes result (K.written sink.old) (K.written sink.new))) }
     ensures input_reads { (command : WholeInput) → AreWordsOf (Command.Read command) words.now
         → CallsAtMost (limit_of command + 1) (S.calls source.old) (S.calls source.new) }
-    ensures certificate { result.status ≡ Status.CertRefused
-        → AreWordsOf (Command.Read WholeInput.Lrat) words.now }
-    ensures difference { result.status ≡ Status.Different
-        → AreWordsOf (Command.Read WholeInput.Replay) words.now }
-    ensures keeps { result.status ≢ Status.CertRefused → result.kept ≡ Kept.Nothing }
+    ensures input_ends { (command : WholeInput) → AreWordsOf (Command.Read command) words.now
+        → can_end command result.status ≡ true }
+
+    // `gen`: the routines of the number's problem agree, and a certificate shows it.
+    ensures generate_did { (n : ℕ) → AreWordsOf (Command.Generate n) words.now → GenerateDid n result
+        (K.written sink.old) (K.written sink.new) }
+    ensures generate_reads { (n : ℕ) → AreWordsOf (Command.Generate n) words.now → source.new ≡ source.old }
+
+    // With a fault, and after `keys`, nothing is kept.
+    ensures keeps { is_fault result.status ≡ true → result.kept ≡ Kept.Nothing }
+    ensures keys_keeps { AreWordsOf Command.Keys words.now → result.kept ≡ Kept.Nothing }
 
     // A fault has its cause: a count rose in this call.
     ensures read_cause { result.status ≡ Status.ReadFault → Rose (S.faults source.old) (S.faults source.new) }
@@ -67,6 +78,7 @@ pub fn hp16c<S: Source, K: Sink>(
             status: keys(source, sink),
             kept: Kept::Nothing,
         },
-        Command::Read(command) => answer_input(alloc, command, source, sink),
+        Command::Read(command) => answer_input(alloc, command, source, sink, rules),
+        Command::Generate(n) => generate_and_judge(alloc, n, sink, rules),
     }
 }

@@ -1,15 +1,19 @@
 // The commands that read their whole input before they answer.
-ghost use Rattle.std.specs.Prelude.{◌≡◌, ◌≢◌, ◌+◌, ◌≤◌, length, IfSome, IfOk};
+ghost use Rattle.std.specs.Prelude.{◌≡◌, ◌≢◌, true, Err, ◌+◌, ◌≤◌, length, IfSome, IfOk};
 ghost use Rattle.hp_io.specs.Causes.{CallsAtMost, Rose};
-ghost use Rattle.hp16c_commands.specs.WholeInputs.{limit_of, Answers, IsAnswerTo, IsAnswer, IsOutcomeOf};
-ghost use Rattle.hp16c_commands.specs.WholeInputs.{WasGiven, WasCutShort, WasTold, IfGiven};
+ghost use Rattle.hp16c_commands.specs.WholeInputs.{limit_of, Answers, IsAnswerTo, IsAnswer};
+ghost use Rattle.hp16c_commands.specs.WholeInputs.{WasGiven, WasCutShort, WasTold, IfGiven, can_end, is_answer_of, is_fault};
+ghost use Rattle.hp16c_commands.specs.Answered.{answer_of};
 
-use crate::answers::Answer;
+use crate::checking::check_certificate;
+use crate::judging::judge_problem;
 use crate::lrat::check_proof;
 use crate::outcomes::{Kept, Outcome, Status};
 use crate::replays::replay_start;
 use crate::routines::{assemble_routine, list_routine};
-use hp_io::{Bytes, Failed, ReadStop, Sink, Source, Taken, read_limited, write_whole};
+use crate::told::Answer;
+use hp_io::{Bytes, Failed, ReadStop, Sink, Source, Taken, read_limited};
+use jd_rules::RuleSet;
 use std::alloc::{AllocError, Global};
 
 /// The commands that read their whole input, within a limit, before they answer.
@@ -23,6 +27,12 @@ pub enum WholeInput {
     List,
     /// `replay`: runs both routines of a problem from a start, and writes what is seen of them.
     Replay,
+    /// `judge`: reads a problem, and writes a certificate that its routines agree, a start from which
+    /// they don't, or the limit that was met.
+    Judge,
+    /// `check`: reads a problem and a certificate line by line, and writes what the check says. It
+    /// keeps none of what it read.
+    Check,
 }
 
 impl WholeInput {
@@ -32,48 +42,80 @@ impl WholeInput {
     {
         match self {
             WholeInput::Lrat => 268_435_456,
-            WholeInput::Assemble | WholeInput::List => 65_536,
+            WholeInput::Assemble | WholeInput::List | WholeInput::Judge => 65_536,
             WholeInput::Replay => 131_072,
+            WholeInput::Check => 268_500_992,
         }
     }
 }
 
 // An answer to bytes that were read whole.
-fn find_answer(alloc: Global, command: WholeInput, bytes: &Bytes) -> Result<Answer, AllocError>
-    requires { length bytes.now ≤ limit_of command }
-    ensures { IfOk result (Answers command bytes.now) }
+fn find_answer(
+    alloc: Global,
+    command: WholeInput,
+    bytes: &Bytes,
+    rules: &RuleSet,
+) -> Result<Answer, AllocError>
+    requires within { length bytes.now ≤ limit_of command }
+    requires whole { command ≢ WholeInput.Check }
+    ensures { IfOk result (λ answer. Answers command bytes.now (answer_of answer)) }
 {
     match command {
         WholeInput::Lrat => check_proof(alloc, bytes),
         WholeInput::Assemble => assemble_routine(alloc, bytes),
         WholeInput::List => list_routine(alloc, bytes),
         WholeInput::Replay => replay_start(alloc, bytes),
+        WholeInput::Judge => judge_problem(alloc, bytes, rules),
+        WholeInput::Check => unreachable!(),
     }
 }
 
 // Reads a source, and finds an answer to its bytes.
-fn read_answer<S: Source>(
+fn find_in_source<S: Source>(
     alloc: Global,
     command: WholeInput,
     source: &mut S,
+    rules: &RuleSet,
 ) -> Result<Answer, ReadStop>
-    ensures answer { IfOk result (IsAnswer command (S.left source.old) (S.left source.new)) }
-    ensures outcome { IfOk result (λ answer. IsOutcomeOf command answer.outcome) }
-    ensures told { IfSome (S.left source.old) (λ bytes.
-        IfOk result (λ answer. IsAnswerTo command bytes answer)) }
+    ensures answer { IfOk result (λ answer. IsAnswer command
+        (S.left source.old) (S.left source.new) (answer_of answer)) }
     ensures failed { result ≡ Err ReadStop.Failed
         → Rose (S.faults source.old) (S.faults source.new) }
     ensures faults { S.faults source.old ≤ S.faults source.new }
     ensures calls { CallsAtMost (limit_of command + 1) (S.calls source.old) (S.calls source.new) }
 {
+    if command == WholeInput::Check {
+        return check_certificate(alloc, source, rules);
+    }
     let found = match read_limited(alloc, source, command.limit())? {
-        Taken::Whole(bytes) => find_answer(alloc, command, &bytes),
+        Taken::Whole(bytes) => find_answer(alloc, command, &bytes, rules),
         Taken::TooLong => Answer::too_long(alloc),
     };
     match found {
         Ok(answer) => Ok(answer),
         Err(AllocError) => Err(ReadStop::NoMemory),
     }
+}
+
+// The same, and what follows of the answer: its status, and what it is to bytes that the source tells.
+fn read_answer<S: Source>(
+    alloc: Global,
+    command: WholeInput,
+    source: &mut S,
+    rules: &RuleSet,
+) -> Result<Answer, ReadStop>
+    ensures answer { IfOk result (λ answer. IsAnswer command
+        (S.left source.old) (S.left source.new) (answer_of answer)) }
+    ensures ends { IfOk result (λ answer.
+        is_answer_of command (answer_of answer).outcome.status ≡ true) }
+    ensures told { IfSome (S.left source.old) (λ bytes.
+        IfOk result (λ answer. IsAnswerTo command bytes (answer_of answer))) }
+    ensures failed { result ≡ Err ReadStop.Failed
+        → Rose (S.faults source.old) (S.faults source.new) }
+    ensures faults { S.faults source.old ≤ S.faults source.new }
+    ensures calls { CallsAtMost (limit_of command + 1) (S.calls source.old) (S.calls source.new) }
+{
+    find_in_source(alloc, command, source, rules)
 }
 
 /// Reads a source to its end, and writes an answer to its bytes. It takes memory for the bytes and
@@ -83,6 +125,7 @@ pub fn answer_input<S: Source, K: Sink>(
     command: WholeInput,
     source: &mut S,
     sink: &mut K,
+    rules: &RuleSet,
 ) -> Outcome
     ensures given { IfGiven result.status (WasGiven command result
         (S.left source.old) (S.left source.new) (K.written sink.old) (K.written sink.new)) }
@@ -94,10 +137,8 @@ pub fn answer_input<S: Source, K: Sink>(
         (WasTold command bytes result (K.written sink.old) (K.written sink.new))) }
 
     // When each status comes that the answers don't decide, and when something is kept.
-    ensures no_usage { result.status ≢ Status.Usage }
-    ensures difference { result.status ≡ Status.Different → command ≡ WholeInput.Replay }
-    ensures certificate { result.status ≡ Status.CertRefused → command ≡ WholeInput.Lrat }
-    ensures kept { result.status ≢ Status.CertRefused → result.kept ≡ Kept.Nothing }
+    ensures ends { can_end command result.status ≡ true }
+    ensures keeps { is_fault result.status ≡ true → result.kept ≡ Kept.Nothing }
     ensures read_cause { result.status ≡ Status.ReadFault
         → Rose (S.faults source.old) (S.faults source.new) }
     ensures write_cause { result.status ≡ Status.WriteFault
@@ -106,9 +147,9 @@ pub fn answer_input<S: Source, K: Sink>(
     ensures write_faults { K.faults sink.old ≤ K.faults sink.new }
     ensures calls { CallsAtMost (limit_of command + 1) (S.calls source.old) (S.calls source.new) }
 {
-    match read_answer(alloc, command, source) {
-        Ok(answer) => match write_whole(sink, answer.text.as_bytes()) {
-            Ok(()) => answer.outcome,
+    match read_answer(alloc, command, source, rules) {
+        Ok(answer) => match answer.write(sink) {
+            Ok(()) => answer.outcome(),
             Err(Failed) => Outcome::of(Status::WriteFault),
         },
         Err(ReadStop::Failed) => Outcome::of(Status::ReadFault),

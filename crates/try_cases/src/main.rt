@@ -3,6 +3,7 @@
 
 use hp_io::{MemSink, MemSource};
 use hp16c_commands::{Status, hp16c};
+use jd_rules::RuleSet;
 use std::alloc::{AllocError, Global};
 use std::{fs, io};
 
@@ -78,7 +79,8 @@ fn is_as_expected(
     let room = vec![in alloc; 0u8; output.len().saturating_add(1)]?;
     let mut source = MemSource::new(input, Vec::new(alloc));
     let mut sink = MemSink::new(room, Vec::new(alloc));
-    let outcome = hp16c(alloc, words.as_slice(), &mut source, &mut sink);
+    let rules = RuleSet::new(Vec::new(alloc));
+    let outcome = hp16c(alloc, words.as_slice(), &mut source, &mut sink, &rules);
     Ok(outcome.status == status_told(output) && sink.written() == output)
 }
 

@@ -4,6 +4,7 @@
 
 use hp_io::{MemSink, MemSource, next_byte};
 use hp16c_commands::hp16c;
+use jd_rules::RuleSet;
 use std::alloc::{AllocError, Global};
 use std::{fs, io};
 
@@ -111,7 +112,8 @@ fn is_as_expected(alloc: Global, row: Row) -> Result<bool, AllocError> {
     let room = vec![in alloc; 0u8; row.output.len().saturating_add(1)]?;
     let mut source = MemSource::new(row.input, vec![in alloc; row.failing_read]?);
     let mut sink = MemSink::new(room, vec![in alloc; row.failing_write]?);
-    let outcome = hp16c(alloc, row.words.as_slice(), &mut source, &mut sink);
+    let rules = RuleSet::new(Vec::new(alloc));
+    let outcome = hp16c(alloc, row.words.as_slice(), &mut source, &mut sink, &rules);
     let next = next_byte(&mut source).unwrap_or(None);
     Ok(
         outcome.status.number() == row.status

@@ -1,0 +1,54 @@
+-- What follows of an answer to what a source gave.
+use Rattle.std.proofs.Common.{◌≡◌, ℕ, ◌+◌, ◌<◌, ◌≤◌, true, false, Bool, ◌||◌, List, [], ◌++◌, length, Option, Some, None, IfSome, IfOk, refl, sym, ap, subst, ◌∙◌, arith, inl, inr, append-nil, length-append}
+use Rattle.std.specs.Prelude.{Result, Ok, Err}
+use Rattle.hp_io.specs.declared.limited.ReadStop.{ReadStop}
+use Rattle.hp16c_commands.specs.declared.outcomes.Status.{Status}
+use Rattle.hp16c_commands.specs.declared.told.Answer.{Answer as AnswerTold}
+use Rattle.hp16c_commands.specs.declared.whole_inputs.WholeInput.{WholeInput}
+use Rattle.hp16c_commands.specs.Answers.{Answer, too_long}
+use Rattle.hp16c_commands.specs.Answered.{answer_of}
+use Rattle.hp16c_commands.specs.WholeInputs.{Answers, IsAnswer, IsAnswerTo, within, past, can_end, is_answer_of, is_fault, limit_of}
+use Rattle.hp16c_commands.proofs.AnswerEnds.{answer-ends}
+
+given-ends : (command : WholeInput) (left0 left : Option (List ℕ)) (answer : Answer) → IsAnswer command left0 left answer → is_answer_of command answer.outcome.status ≡ true
+given-ends command left0 left answer (inl w) = answer-ends command w.taken answer w.answers
+given-ends command left0 left answer (inr long) = subst (λ (a : Answer). is_answer_of command a.outcome.status ≡ true) (sym long.answer_is) refl
+
+-- of bytes that the source told
+given-told : (command : WholeInput) (left0 left : Option (List ℕ)) (answer : Answer) → IsAnswer command left0 left answer → IfSome left0 (λ bytes. IsAnswerTo command bytes answer)
+given-told command None left answer is = tt
+given-told command (Some bytes) None answer (inl w) = absurd w.rest.taken
+given-told command (Some bytes) None answer (inr long) = absurd long.took.1
+given-told command (Some bytes) (Some rest) answer (inl w) =
+    let all : w.taken ≡ bytes = sym (append-nil w.taken) ∙ ap (λ t. w.taken ++ t) (sym w.rest.ended) ∙ sym w.rest.taken in
+    within (subst (λ t. length t ≤ limit_of command) all w.within) (subst (λ t. Answers command t answer) all w.answers)
+given-told command (Some bytes) (Some rest) answer (inr long) =
+    past (omega (arith, ap length long.took.1, length-append long.took.0 rest, long.took.2)) long.answer_is
+
+pub ok-ends : (command : WholeInput) (left0 left : Option (List ℕ)) (r : Result AnswerTold ReadStop) → IfOk r (λ a. IsAnswer command left0 left (answer_of a))
+    → IfOk r (λ a. is_answer_of command (answer_of a).outcome.status ≡ true)
+ok-ends command left0 left (Ok a) is = given-ends command left0 left (answer_of a) is
+ok-ends command left0 left (Err stop) is = tt
+
+some-ok : (command : WholeInput) (left0 : Option (List ℕ)) (a : AnswerTold) → IfSome left0 (λ bytes. IsAnswerTo command bytes (answer_of a))
+    → IfSome left0 (λ bytes. IfOk {E = ReadStop} (Ok a) (λ answer. IsAnswerTo command bytes (answer_of answer)))
+some-ok command None a is = tt
+some-ok command (Some bytes) a is = is
+
+some-err : (command : WholeInput) (left0 : Option (List ℕ)) (stop : ReadStop)
+    → IfSome left0 (λ bytes. IfOk {T = AnswerTold} (Err stop) (λ answer. IsAnswerTo command bytes (answer_of answer)))
+some-err command None stop = tt
+some-err command (Some bytes) stop = tt
+
+pub ok-told : (command : WholeInput) (left0 left : Option (List ℕ)) (r : Result AnswerTold ReadStop) → IfOk r (λ a. IsAnswer command left0 left (answer_of a))
+    → IfSome left0 (λ bytes. IfOk r (λ a. IsAnswerTo command bytes (answer_of a)))
+ok-told command left0 left (Ok a) is = some-ok command left0 a (given-told command left0 left (answer_of a) is)
+ok-told command left0 left (Err stop) is = some-err command left0 stop
+
+-- an answer's status is one with which the command may end
+pub may-end : (command : WholeInput) (status : Status) → is_answer_of command status ≡ true → can_end command status ≡ true
+may-end command status is = by (is_fault status) is
+  where
+    by : (fault : Bool) → is_answer_of command status ≡ true → (fault || is_answer_of command status) ≡ true
+    by true is = refl
+    by false is = is

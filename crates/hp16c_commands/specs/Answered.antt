@@ -1,0 +1,7 @@
+-- An answer as callers see it.
+use Rattle.hp16c_commands.specs.declared.told.Answer.{Answer as AnswerTold}
+use Rattle.hp16c_commands.specs.Answers.{Answer}
+use Rattle.hp16c_commands.specs.Told.{answer_told}
+
+abbrev pub answer_of : AnswerTold → Answer
+answer_of answer = answer_told answer.told

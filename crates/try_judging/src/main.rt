@@ -1,0 +1,125 @@
+//! Judges pairs of routines whose answers another program told, checks each certificate and replays
+//! each start, and prints how many are as told.
+#![tactic(auto)]
+
+use hp_io::{MemSink, MemSource};
+use hp16c_commands::hp16c;
+use jd_circuit::Gate;
+use jd_rules::{Rule, RuleSet, constant_and, constant_xor};
+use std::alloc::{AllocError, Global};
+use std::{fs, io};
+
+/// The most bytes that a command may write.
+const ROOM: usize = 1 << 25;
+
+/// A problem, and the statuses with which its judgement may end.
+#[derive(Drop)]
+struct Pair {
+    allowed: Vec<u8>,
+    problem: Vec<u8>,
+}
+
+/// How a command ended, and what it wrote.
+#[derive(Drop)]
+struct Answer {
+    status: u8,
+    output: Vec<u8>,
+}
+
+/// The pair of a title, which is its number and then the statuses.
+fn new_pair(alloc: Global, title: &str) -> Result<Pair, AllocError> {
+    let mut allowed = Vec::new(alloc);
+    for word in title.split(" ").skip(1) {
+        allowed.push(word.parse().unwrap_or(255))?;
+    }
+    Ok(Pair {
+        allowed,
+        problem: Vec::new(alloc),
+    })
+}
+
+/// The pairs of a file, each a title and the problem's lines.
+fn read_pairs(alloc: Global, text: &str) -> Result<Vec<Pair>, AllocError> {
+    let mut pairs: Vec<Pair> = Vec::new(alloc);
+    for line in text.lines() {
+        if let Some(title) = line.strip_prefix("pair ") {
+            pairs.push(new_pair(alloc, title)?)?;
+        } else if let Some(pair) = pairs.last_mut() {
+            pair.problem.extend_from_slice(line.as_bytes())?;
+            pair.problem.push(b'\n')?;
+        }
+    }
+    Ok(pairs)
+}
+
+/// Does a command of one word.
+fn answer(
+    alloc: Global,
+    word: &str,
+    input: Vec<u8>,
+    rules: &RuleSet,
+) -> Result<Answer, AllocError> {
+    let words = vec![in alloc; String::from_str(alloc, word)?]?;
+    let mut source = MemSource::new(input, Vec::new(alloc));
+    let mut sink = MemSink::new(vec![in alloc; 0u8; ROOM]?, Vec::new(alloc));
+    let outcome = hp16c(alloc, words.as_slice(), &mut source, &mut sink, rules);
+    let mut output = Vec::new(alloc);
+    output.extend_from_slice(sink.written())?;
+    Ok(Answer {
+        status: outcome.status.number(),
+        output,
+    })
+}
+
+/// Whether what was judged bears it out: a certificate checks, and from a start the routines differ.
+fn is_borne_out(alloc: Global, judged: Answer, rules: &RuleSet) -> Result<bool, AllocError> {
+    match judged.status {
+        0 => {
+            let checked = answer(alloc, "check", judged.output, rules)?;
+            Ok(checked.status == 0 && checked.output.as_slice() == b"equal\n")
+        }
+        1 => {
+            let replayed = answer(alloc, "replay", judged.output, rules)?;
+            Ok(replayed.status == 1 && replayed.output.as_slice().ends_with(b"differ\n"))
+        }
+        _ => Ok(true),
+    }
+}
+
+/// Whether a pair is judged as allowed.
+fn is_as_told(alloc: Global, pair: Pair, rules: &RuleSet) -> Result<bool, AllocError> {
+    let judged = answer(alloc, "judge", pair.problem, rules)?;
+    Ok(pair.allowed.as_slice().contains(&judged.status) && is_borne_out(alloc, judged, rules)?)
+}
+
+/// The rules of the program.
+fn rules(alloc: Global) -> Result<RuleSet, AllocError> {
+    let mut rules: Vec<Rule> = Vec::new(alloc);
+    rules.push(Rule::new(Box::new(alloc, |gate: Gate| constant_and(gate))?))?;
+    rules.push(Rule::new(Box::new(alloc, |gate: Gate| constant_xor(gate))?))?;
+    Ok(RuleSet::new(rules))
+}
+
+fn run_file(rt: &HostRuntime, path: &str, rules: &RuleSet) -> io::Result<()> {
+    let text = fs::read_to_string(rt, path)?;
+    let pairs = read_pairs(rt.alloc(), text.as_str())?;
+    let count = pairs.len();
+    let mut number: u64 = 0;
+    let mut good: u64 = 0;
+    for pair in pairs {
+        number = number.saturating_add(1);
+        if is_as_told(rt.alloc(), pair, rules)? {
+            good = good.saturating_add(1);
+        } else {
+            println!(rt; "{path}: pair {number}: not as told")?;
+        }
+    }
+    println!(rt; "{path}: {good} of {count} as told")
+}
+
+fn main(rt: HostRuntime) -> io::Result<()> {
+    let main_rules = rules(rt.alloc())?;
+    run_file(&rt, "pairs.txt", &main_rules)?;
+    let none = RuleSet::new(Vec::new(rt.alloc()));
+    run_file(&rt, "rows.txt", &none)
+}
