@@ -1,8 +1,11 @@
 -- What follows of an answer to what a source gave.
-use Rattle.std.proofs.Common.{◌≡◌, ℕ, ◌+◌, ◌<◌, ◌≤◌, true, false, Bool, ◌||◌, List, [], ◌++◌, length, Option, Some, None, IfSome, IfOk, refl, sym, ap, subst, ◌∙◌, arith, inl, inr, append-nil, length-append}
+use Rattle.std.proofs.Common.{◌≡◌, ◌≢◌, ℕ, ◌+◌, ◌<◌, ◌≤◌, true, false, Bool, ◌||◌, List, [], ◌++◌, length, Option, Some, None, IfSome, IfOk, refl, sym, ap, subst, ◌∙◌, arith, inl, inr, append-nil, length-append}
 use Rattle.std.specs.Prelude.{Result, Ok, Err}
 use Rattle.hp_io.specs.declared.limited.ReadStop.{ReadStop}
+use Rattle.std.proofs.lemmas.Bool.{false≢true}
 use Rattle.hp16c_commands.specs.declared.outcomes.Status.{Status}
+use Rattle.hp16c_commands.specs.declared.outcomes.Status.TheVariants.{Usage}
+use Rattle.hp16c_commands.specs.declared.whole_inputs.WholeInput.TheVariants as inputs
 use Rattle.hp16c_commands.specs.declared.told.Answer.{Answer as AnswerTold}
 use Rattle.hp16c_commands.specs.declared.whole_inputs.WholeInput.{WholeInput}
 use Rattle.hp16c_commands.specs.Answers.{Answer, too_long}
@@ -29,6 +32,23 @@ pub ok-ends : (command : WholeInput) (left0 left : Option (List ℕ)) (r : Resul
     → IfOk r (λ a. is_answer_of command (answer_of a).outcome.status ≡ true)
 ok-ends command left0 left (Ok a) is = given-ends command left0 left (answer_of a) is
 ok-ends command left0 left (Err stop) is = tt
+
+-- no answer says that the words are no command
+not-usage : (command : WholeInput) (status : Status) → is_answer_of command status ≡ true → status ≢ Usage
+not-usage command status is same = false≢true (sym (never command) ∙ subst (λ s. is_answer_of command s ≡ true) same is)
+  where
+    never : (command : WholeInput) → is_answer_of command Usage ≡ false
+    never inputs.Lrat = refl
+    never inputs.Assemble = refl
+    never inputs.List = refl
+    never inputs.Replay = refl
+    never inputs.Judge = refl
+    never inputs.Check = refl
+
+pub ok-no-usage : (command : WholeInput) (left0 left : Option (List ℕ)) (r : Result AnswerTold ReadStop) → IfOk r (λ a. IsAnswer command left0 left (answer_of a))
+    → IfOk r (λ a. (answer_of a).outcome.status ≢ Usage)
+ok-no-usage command left0 left (Ok a) is = not-usage command (answer_of a).outcome.status (given-ends command left0 left (answer_of a) is)
+ok-no-usage command left0 left (Err stop) is = tt
 
 some-ok : (command : WholeInput) (left0 : Option (List ℕ)) (a : AnswerTold) → IfSome left0 (λ bytes. IsAnswerTo command bytes (answer_of a))
     → IfSome left0 (λ bytes. IfOk {E = ReadStop} (Ok a) (λ answer. IsAnswerTo command bytes (answer_of answer)))

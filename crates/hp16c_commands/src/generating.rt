@@ -1,10 +1,11 @@
 // The command `gen`.
-ghost use Rattle.std.specs.Prelude.{◌≡◌, ◌≢◌, ◌≤◌, length};
+ghost use Rattle.std.specs.Prelude.{◌≡◌, ◌≢◌, ◌≤◌, true};
 ghost use Rattle.hp_io.specs.Causes.{Rose};
 ghost use Rattle.jd_generated.specs.Generated.{generated, summary};
 ghost use Rattle.jd_problem.specs.Problems.{problem_of};
 ghost use Rattle.jd_judge.specs.Judging.{IsEqual, IsJudged};
 ghost use Rattle.hp16c_commands.specs.Generate.{GenerateDid};
+ghost use Rattle.hp16c_commands.specs.WholeInputs.{is_fault};
 
 use crate::outcomes::{Kept, Outcome, Status};
 use arrayvec::ArrayString;
@@ -51,6 +52,8 @@ fn certificate(n: u32, judged: Judged) -> (Book, Cert)
 /// memory for the judge.
 pub fn generate_and_judge<K: Sink>(alloc: Global, n: u32, sink: &mut K, rules: &RuleSet) -> Outcome
     ensures did { GenerateDid n result (K.written sink.old) (K.written sink.new) }
+    ensures no_usage { result.status ≢ Status.Usage }
+    ensures keeps { is_fault result.status ≡ true → result.kept ≡ Kept.Nothing }
     ensures write_cause { result.status ≡ Status.WriteFault
         → Rose (K.faults sink.old) (K.faults sink.new) }
     ensures write_faults { K.faults sink.old ≤ K.faults sink.new }

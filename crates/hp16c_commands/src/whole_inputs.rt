@@ -106,6 +106,7 @@ fn read_answer<S: Source>(
 ) -> Result<Answer, ReadStop>
     ensures answer { IfOk result (λ answer. IsAnswer command
         (S.left source.old) (S.left source.new) (answer_of answer)) }
+    ensures no_usage { IfOk result (λ answer. (answer_of answer).outcome.status ≢ Status.Usage) }
     ensures ends { IfOk result (λ answer.
         is_answer_of command (answer_of answer).outcome.status ≡ true) }
     ensures told { IfSome (S.left source.old) (λ bytes.
@@ -137,6 +138,7 @@ pub fn answer_input<S: Source, K: Sink>(
         (WasTold command bytes result (K.written sink.old) (K.written sink.new))) }
 
     // When each status comes that the answers don't decide, and when something is kept.
+    ensures no_usage { result.status ≢ Status.Usage }
     ensures ends { can_end command result.status ≡ true }
     ensures keeps { is_fault result.status ≡ true → result.kept ≡ Kept.Nothing }
     ensures read_cause { result.status ≡ Status.ReadFault
