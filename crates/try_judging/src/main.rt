@@ -76,7 +76,7 @@ fn is_borne_out(alloc: Global, judged: Answer, rules: &RuleSet) -> Result<bool, 
     match judged.status {
         0 => {
             let checked = answer(alloc, "check", judged.output, rules)?;
-            Ok(checked.status == 0 && checked.output.as_slice() == b"equal\n")
+            Ok(checked.status == 0 && checked.output.as_slice() == b"equal\n".as_slice())
         }
         1 => {
             let replayed = answer(alloc, "replay", judged.output, rules)?;
