@@ -53,7 +53,7 @@ fn read_pairs(alloc: Global, text: &str) -> Result<Vec<Pair>, AllocError> {
 }
 
 /// Does a command of one word.
-fn answer(
+fn run_command(
     alloc: Global,
     word: &str,
     input: Vec<u8>,
@@ -75,11 +75,11 @@ fn answer(
 fn is_borne_out(alloc: Global, judged: Answer, rules: &RuleSet) -> Result<bool, AllocError> {
     match judged.status {
         0 => {
-            let checked = answer(alloc, "check", judged.output, rules)?;
+            let checked = run_command(alloc, "check", judged.output, rules)?;
             Ok(checked.status == 0 && checked.output.as_slice() == b"equal\n".as_slice())
         }
         1 => {
-            let replayed = answer(alloc, "replay", judged.output, rules)?;
+            let replayed = run_command(alloc, "replay", judged.output, rules)?;
             Ok(replayed.status == 1 && replayed.output.as_slice().ends_with(b"differ\n"))
         }
         _ => Ok(true),
@@ -88,7 +88,7 @@ fn is_borne_out(alloc: Global, judged: Answer, rules: &RuleSet) -> Result<bool, 
 
 /// Whether a pair is judged as allowed.
 fn is_as_told(alloc: Global, pair: Pair, rules: &RuleSet) -> Result<bool, AllocError> {
-    let judged = answer(alloc, "judge", pair.problem, rules)?;
+    let judged = run_command(alloc, "judge", pair.problem, rules)?;
     Ok(pair.allowed.as_slice().contains(&judged.status) && is_borne_out(alloc, judged, rules)?)
 }
 
