@@ -4,9 +4,7 @@
 use hp_io::{StdSink, StdSource};
 use hp16c_commands::Status;
 pub use hp16c_commands::hp16c;
-use jd_circuit::Gate;
-use jd_rules::{Rule, RuleSet, constant_and, constant_xor};
-use std::alloc::{AllocError, Global};
+use jd_rules::RuleSet;
 use std::io::{BufReader, ErrorKind};
 use std::process::ExitCode;
 use std::{env, io};
@@ -18,14 +16,6 @@ const NO_MEMORY: u8 = 8;
 fn words(rt: &HostRuntime) -> io::Result<Vec<String>> {
     let words = env::args(rt)?.skip(1).collect(rt.alloc())?;
     Ok(words)
-}
-
-// The rules that the judge's circuits ask before they add a gate.
-fn rules(alloc: Global) -> Result<RuleSet, AllocError> {
-    let mut rules: Vec<Rule> = Vec::new(alloc);
-    rules.push(Rule::new(Box::new(alloc, |gate: Gate| constant_and(gate))?))?;
-    rules.push(Rule::new(Box::new(alloc, |gate: Gate| constant_xor(gate))?))?;
-    Ok(RuleSet::new(rules))
 }
 
 // The number with which it ends without its words. Words that are no text are no command.
@@ -41,9 +31,8 @@ fn main(rt: HostRuntime) -> ExitCode {
         Ok(words) => words,
         Err(error) => return ExitCode::from(number_without_words(&error)),
     };
-    let Ok(rules) = rules(rt.alloc()) else {
-        return ExitCode::from(NO_MEMORY);
-    };
+    // The circuit simplifies its gates by itself, so no rule is handed in.
+    let rules = RuleSet::new(Vec::new(rt.alloc()));
     let Ok(reader) = BufReader::new(rt.alloc(), rt.reader()) else {
         return ExitCode::from(NO_MEMORY);
     };

@@ -4,8 +4,7 @@
 
 use hp_io::{MemSink, MemSource};
 use hp16c_commands::hp16c;
-use jd_circuit::Gate;
-use jd_rules::{Rule, RuleSet, constant_and, constant_xor};
+use jd_rules::RuleSet;
 use std::alloc::{AllocError, Global};
 use std::{fs, io};
 
@@ -92,14 +91,6 @@ fn is_as_told(alloc: Global, pair: Pair, rules: &RuleSet) -> Result<bool, AllocE
     Ok(pair.allowed.as_slice().contains(&judged.status) && is_borne_out(alloc, judged, rules)?)
 }
 
-/// The rules of the program.
-fn rules(alloc: Global) -> Result<RuleSet, AllocError> {
-    let mut rules: Vec<Rule> = Vec::new(alloc);
-    rules.push(Rule::new(Box::new(alloc, |gate: Gate| constant_and(gate))?))?;
-    rules.push(Rule::new(Box::new(alloc, |gate: Gate| constant_xor(gate))?))?;
-    Ok(RuleSet::new(rules))
-}
-
 fn run_file(rt: &HostRuntime, path: &str, rules: &RuleSet) -> io::Result<()> {
     let text = fs::read_to_string(rt, path)?;
     let pairs = read_pairs(rt.alloc(), text.as_str())?;
@@ -118,8 +109,7 @@ fn run_file(rt: &HostRuntime, path: &str, rules: &RuleSet) -> io::Result<()> {
 }
 
 fn main(rt: HostRuntime) -> io::Result<()> {
-    let main_rules = rules(rt.alloc())?;
-    run_file(&rt, "pairs.txt", &main_rules)?;
-    let none = RuleSet::new(Vec::new(rt.alloc()));
-    run_file(&rt, "rows.txt", &none)
+    let rules = RuleSet::new(Vec::new(rt.alloc()));
+    run_file(&rt, "pairs.txt", &rules)?;
+    run_file(&rt, "rows.txt", &rules)
 }
