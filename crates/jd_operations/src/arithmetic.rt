@@ -13,9 +13,8 @@ use hp_ops::Arithmetic;
 use hp_words::Mode;
 use jd_circuit::{Circuit, NoMemory, Rewrite};
 use jd_content::{SymContent, answer_two, answer_x, put_answer};
-use jd_rows::{
-    SymAnswer, absolute, difference, negation, product, quotient, remainder, square_root, sum,
-};
+use jd_products::{product, quotient, remainder, square_root};
+use jd_rows::{SymAnswer, absolute, difference, negation, sum};
 use jd_vectors::Lits;
 
 /// The answer.

@@ -15,7 +15,8 @@ use hp_ops::Bits;
 use hp_words::Mode;
 use jd_circuit::{Circuit, NoMemory, Rewrite};
 use jd_content::{SymContent, answer_two, answer_x};
-use jd_rows::{SymAnswer, clear_bit, mask_left, mask_right, ones_of, places_of, set_bit};
+use jd_places::{clear_bit, mask_left, mask_right, ones_of, places_of, set_bit};
+use jd_rows::SymAnswer;
 use jd_vectors::Lits;
 
 /// Ones at the left end, as many as X says.

@@ -11,7 +11,7 @@ use hp_control::Control;
 use hp_ops::Double;
 use jd_circuit::{Circuit, Lit, NoMemory, Rewrite};
 use jd_content::{SymContent, answer_three, save};
-use jd_rows::{double_divide, double_multiply, double_remainder};
+use jd_products::{double_divide, double_multiply, double_remainder};
 
 /// The product, whose upper word goes to X and whose lower word goes to Y.
 fn change_multiply<W: Rewrite>(

@@ -14,10 +14,11 @@ use hp_control::Control;
 use hp_ops::Rotation;
 use jd_circuit::{Circuit, Lit, NoMemory, Rewrite};
 use jd_content::{SymContent, answer_two, answer_x, flag};
-use jd_rows::{
-    SymAnswer, places_of, rotated_left, rotated_left_with_carry, rotated_right,
-    rotated_right_with_carry, turned_left, turned_right,
+use jd_places::{
+    places_of, rotated_left, rotated_left_with_carry, rotated_right, rotated_right_with_carry,
+    turned_left, turned_right,
 };
+use jd_rows::SymAnswer;
 use jd_turns::{turn_left_with_carry, turn_right_with_carry};
 use jd_vectors::Lits;
 

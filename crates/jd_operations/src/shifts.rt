@@ -10,7 +10,8 @@ use hp_control::Control;
 use hp_ops::Shift;
 use jd_circuit::{Circuit, NoMemory, Rewrite};
 use jd_content::{SymContent, answer_x, lift, save};
-use jd_rows::{SymAnswer, justified, shifted_arithmetic, shifted_left, shifted_right};
+use jd_places::{justified, shifted_arithmetic, shifted_left, shifted_right};
+use jd_rows::SymAnswer;
 
 /// X justified at the left: the word goes to Y, and the count of places to X.
 fn change_justify<W: Rewrite>(

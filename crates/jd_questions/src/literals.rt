@@ -18,9 +18,10 @@ use hp_words::Mode;
 use jd_circuit::{Circuit, Lit, NoMemory, Rewrite};
 use jd_comparisons::counted_index;
 use jd_content::{SymContent, flag};
+use jd_places::{bit_is_set, places_of};
+use jd_products::quotient_is_too_great;
 use jd_rows::{
-    bit_is_set, is_at_least, magnitude, magnitude_is_above_size, magnitude_is_size_or_more,
-    places_of, quotient_is_too_great, zero_test,
+    is_at_least, magnitude, magnitude_is_above_size, magnitude_is_size_or_more, zero_test,
 };
 use jd_vectors::Lits;
 

@@ -4,7 +4,7 @@ use Rattle.hp_model.specs.declared.Mode.TheVariants.{Unsigned, Ones, Twos}
 use Rattle.hp_model.specs.Words.{least, greatest}
 use Rattle.hp_model.specs.WordOperations.{sum_of}
 use Rattle.jd_circuit.specs.declared.literals.Lit.TheVariants.{Const, Var, Not}
-use Rattle.jd_rows.specs.Answers.{DividedBy, above, answer_on, below, difference_out, is_false, overflows, shows_minus, sign_of, told, with_sign}
+use Rattle.jd_rows.specs.Answers.{above, answer_on, below, difference_out, is_false, overflows, shows_minus, told, with_sign}
 
 -- variable 2 is true, the others are false
 abbrev second : ℕ → Bool
@@ -71,13 +71,3 @@ borrow = refl
 
 negative : difference_out 4 Twos 3 5 14 ≡ false
 negative = refl
-
-comes_in : sign_of 4 Twos 9 ≡ true
-comes_in = refl
-
-none_comes_in : sign_of 4 Unsigned 9 ≡ false
-none_comes_in = refl
-
--- -7 by 2 is -3, and -1 is left
-cut_towards_zero : DividedBy (neg_ℤ (pos 7)) (pos 2) true 3 true 1
-cut_towards_zero = record { quotient = refl; rest = refl }

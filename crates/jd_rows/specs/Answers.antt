@@ -1,9 +1,8 @@
 -- What answers of literals mean for values of the variables.
-use Rattle.std.specs.Prelude.{◌≡◌, ℕ, ◌-◌, ◌^◌, ◌==◌, nat_lt, nat_le, Bool, true, false, not, ◌&&◌, List, length, Option, Some, None, ℤ, pos, neg_ℤ, int_div}
+use Rattle.std.specs.Prelude.{◌≡◌, ℕ, ◌-◌, ◌^◌, ◌==◌, nat_lt, nat_le, Bool, true, false, not, ◌&&◌, List, length, Option, Some, None, ℤ, pos, neg_ℤ}
 use Rattle.hp_model.specs.declared.Mode.{Mode}
 use Rattle.hp_model.specs.declared.Mode.TheVariants.{Unsigned, Ones, Twos}
 use Rattle.hp_model.specs.declared.Answer.{Answer}
-use Rattle.hp_model.specs.WordOperations.{top_bit, rest_of}
 use Rattle.jd_circuit.specs.declared.literals.Lit.{Lit}
 use Rattle.jd_circuit.specs.declared.literals.Lit.TheVariants.{Const, Var, Not}
 use Rattle.jd_circuit.specs.Meaning.{lit_value, xor}
@@ -70,13 +69,3 @@ above w _ = 2 ^ (w - 1) - 1
 abbrev pub difference_out : ℕ → Mode → ℕ → ℕ → ℕ → Bool
 difference_out w Unsigned y x r = nat_lt y x
 difference_out w _ y x r = xor (nat_le (2 ^ (w - 1)) y) (nat_le (2 ^ (w - 1)) x) && xor (nat_le (2 ^ (w - 1)) y) (nat_le (2 ^ (w - 1)) r)
-
--- the bit that comes in at the top of an arithmetic shift
-abbrev pub sign_of : ℕ → Mode → ℕ → Bool
-sign_of w Unsigned x = false
-sign_of w _ x = top_bit w x
-
--- a quotient cut towards zero and what it leaves, by signs and magnitudes
-pub record DividedBy (dividend divisor : ℤ) (s : Bool) (q : ℕ) (t : Bool) (r : ℕ) : Type 0 where
-  pub quotient : int_div dividend divisor ≡ with_sign s q
-  pub rest : rest_of dividend divisor ≡ with_sign t r

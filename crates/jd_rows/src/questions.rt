@@ -1,11 +1,11 @@
 //! What operations ask of words.
-ghost use Rattle.std.specs.Prelude.{◌≡◌, ℕ, ◌+◌, ◌-◌, ◌*◌, ◌^◌, ◌<◌, ◌≤◌, ◌==◌, Bool, length, IfOk, not, nat_lt, nat_le, int_lt, pos};
-ghost use Rattle.hp_model.specs.Words.{value, magnitude};
+ghost use Rattle.std.specs.Prelude.{◌≡◌, ℕ, ◌+◌, ◌-◌, ◌*◌, ◌^◌, ◌<◌, ◌≤◌, ◌==◌, Bool, length, IfOk, not, nat_lt, nat_le};
+ghost use Rattle.hp_model.specs.Words.{magnitude};
 ghost use Rattle.jd_circuit.specs.Meaning.{lit_value};
 ghost use Rattle.jd_circuit.specs.Net.{IsOf, Grows, Solves, variables};
 ghost use Rattle.jd_vectors.specs.Number.{number, AreOf, Inside};
 
-use crate::magnitudes::{magnitude, sign_of_some};
+use crate::magnitudes::magnitude;
 use crate::words::less;
 use hp_model::Mode;
 use jd_circuit::{Circuit, Lit, NoMemory, Rewrite};
@@ -54,27 +54,6 @@ fn size_in_word(m: &Lits) -> Lits
 {
     let size = m.len();
     Lits::constant(size as u8, size as u64)
-}
-
-/// Whether a word's value is below 0.
-#[tactic(auto, using(jd_vectors::proofs::Kept::grows_trans))]
-pub fn is_negative<W: Rewrite>(
-    c: &mut Circuit<'_, W>,
-    mode: Mode,
-    x: &Lits,
-) -> Result<Lit, NoMemory>
-    requires some { 1 ≤ length x.now }
-    requires of { AreOf c.old x.now }
-    requires room { length c.old.gates + 10 * length x.now + 1 < 2 ^ 30 }
-    ensures of { IfOk result (IsOf c.new) }
-    ensures meaning { IfOk result (λ l. (val : ℕ → Bool) → Solves c.new val
-        → lit_value val l ≡ int_lt (value (length x.now) mode (number val x.now)) (pos 0)) }
-    ensures grows { Grows c.old c.new }
-    ensures more { length c.new.gates ≤ length c.old.gates + 10 * length x.now + 1 }
-{
-    let (sign, size) = magnitude(c, mode, x)?;
-    let l = sign_of_some(c, sign, &size)?;
-    Ok(l)
 }
 
 /// Whether the magnitude of a word is above the word size.

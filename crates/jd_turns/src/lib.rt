@@ -1,6 +1,6 @@
 //! Rotations through the carry by as many places as a number of literals says. They are rotations of
 //! the word with its carry on top. `proofs/` has what moves and counts of `jd_shifts` mean as the
-//! machine's rows, for `jd_rows` too.
+//! machine's rows, for `jd_places` too.
 #![tactic(auto)]
 
 mod turns;

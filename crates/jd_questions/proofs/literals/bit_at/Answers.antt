@@ -2,7 +2,7 @@ use Rattle.std.proofs.Common.{◌≤◌, arith, length}
 use Rattle.jd_vectors.specs.Number.{number}
 use Rattle.jd_vectors.proofs.Kept.{Inside-at}
 use Rattle.jd_vectors.proofs.Numbers.{number-small}
-use Rattle.jd_rows.proofs.Places.{bit_at}
+use Rattle.jd_places.proofs.Places.{bit_at}
 use Rattle.jd_questions.proofs.SomeLiterals.{bit_past}
 use Rattle.jd_questions.proofs.literals.bit_at.Goals as goal
 

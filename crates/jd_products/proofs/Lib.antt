@@ -1,0 +1,4 @@
+pub mod SignedProducts
+pub mod SignedRows
+pub mod WholeRoots
+mod Examples
