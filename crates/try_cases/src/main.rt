@@ -3,7 +3,8 @@
 
 use hp_io::{MemSink, MemSource};
 use hp16c_commands::{Status, hp16c};
-use jd_rules::RuleSet;
+use jd_circuit::Gate;
+use jd_rules::{Rule, RuleSet, constant_and, constant_xor};
 use std::alloc::{AllocError, Global};
 use std::{fs, io};
 
@@ -74,17 +75,17 @@ fn is_as_expected(
     command: &str,
     input: Vec<u8>,
     output: &[u8],
+    rules: &RuleSet,
 ) -> Result<bool, AllocError> {
     let words = vec![in alloc; String::from_str(alloc, command)?]?;
     let room = vec![in alloc; 0u8; output.len().saturating_add(1)]?;
     let mut source = MemSource::new(input, Vec::new(alloc));
     let mut sink = MemSink::new(room, Vec::new(alloc));
-    let rules = RuleSet::new(Vec::new(alloc));
-    let outcome = hp16c(alloc, words.as_slice(), &mut source, &mut sink, &rules);
+    let outcome = hp16c(alloc, words.as_slice(), &mut source, &mut sink, rules);
     Ok(outcome.status == status_told(output) && sink.written() == output)
 }
 
-fn run_file(rt: &HostRuntime, command: &str, path: &str) -> io::Result<()> {
+fn run_file(rt: &HostRuntime, command: &str, path: &str, rules: &RuleSet) -> io::Result<()> {
     let text = fs::read_to_string(rt, path)?;
     let cases = read_cases(rt.alloc(), text.as_str())?;
     let count = cases.len();
@@ -95,7 +96,7 @@ fn run_file(rt: &HostRuntime, command: &str, path: &str) -> io::Result<()> {
             input,
             output,
         } = case;
-        if is_as_expected(rt.alloc(), command, input, output.as_slice())? {
+        if is_as_expected(rt.alloc(), command, input, output.as_slice(), rules)? {
             good = good.saturating_add(1);
         } else {
             println!(rt; "{path}: {title}: not as expected")?;
@@ -105,10 +106,15 @@ fn run_file(rt: &HostRuntime, command: &str, path: &str) -> io::Result<()> {
 }
 
 fn main(rt: HostRuntime) -> io::Result<()> {
-    run_file(&rt, "keys", "operations.txt")?;
-    run_file(&rt, "keys", "programs.txt")?;
-    run_file(&rt, "keys", "corners.txt")?;
-    run_file(&rt, "keys", "large.txt")?;
-    run_file(&rt, "keys", "teaching.txt")?;
-    run_file(&rt, "replay", "replays.txt")
+    let alloc = rt.alloc();
+    let mut rules: Vec<Rule> = Vec::new(alloc);
+    rules.push(Rule::new(Box::new(alloc, |gate: Gate| constant_and(gate))?))?;
+    rules.push(Rule::new(Box::new(alloc, |gate: Gate| constant_xor(gate))?))?;
+    let rules = RuleSet::new(rules);
+    run_file(&rt, "keys", "operations.txt", &rules)?;
+    run_file(&rt, "keys", "programs.txt", &rules)?;
+    run_file(&rt, "keys", "corners.txt", &rules)?;
+    run_file(&rt, "keys", "large.txt", &rules)?;
+    run_file(&rt, "keys", "teaching.txt", &rules)?;
+    run_file(&rt, "replay", "replays.txt", &rules)
 }

@@ -4,7 +4,8 @@
 
 use hp_io::{MemSink, MemSource, next_byte};
 use hp16c_commands::hp16c;
-use jd_rules::RuleSet;
+use jd_circuit::Gate;
+use jd_rules::{Rule, RuleSet, constant_and, constant_xor};
 use std::alloc::{AllocError, Global};
 use std::{fs, io};
 
@@ -108,12 +109,11 @@ fn read_rows(alloc: Global, text: &str) -> Result<Vec<Row>, AllocError> {
 }
 
 // Does a row's command.
-fn is_as_expected(alloc: Global, row: Row) -> Result<bool, AllocError> {
+fn is_as_expected(alloc: Global, row: Row, rules: &RuleSet) -> Result<bool, AllocError> {
     let room = vec![in alloc; 0u8; row.output.len().saturating_add(1)]?;
     let mut source = MemSource::new(row.input, vec![in alloc; row.failing_read]?);
     let mut sink = MemSink::new(room, vec![in alloc; row.failing_write]?);
-    let rules = RuleSet::new(Vec::new(alloc));
-    let outcome = hp16c(alloc, row.words.as_slice(), &mut source, &mut sink, &rules);
+    let outcome = hp16c(alloc, row.words.as_slice(), &mut source, &mut sink, rules);
     let next = next_byte(&mut source).unwrap_or(None);
     Ok(
         outcome.status.number() == row.status
@@ -122,14 +122,14 @@ fn is_as_expected(alloc: Global, row: Row) -> Result<bool, AllocError> {
     )
 }
 
-fn run_file(rt: &HostRuntime, path: &str) -> io::Result<()> {
+fn run_file(rt: &HostRuntime, path: &str, rules: &RuleSet) -> io::Result<()> {
     let text = fs::read_to_string(rt, path)?;
     let rows = read_rows(rt.alloc(), text.as_str())?;
     let count = rows.len();
     let mut good: u64 = 0;
     for row in rows {
         let title = String::from_str(rt.alloc(), row.title.as_str())?;
-        if is_as_expected(rt.alloc(), row)? {
+        if is_as_expected(rt.alloc(), row, rules)? {
             good = good.saturating_add(1);
         } else {
             println!(rt; "{path}: {title}: not as expected")?;
@@ -139,6 +139,11 @@ fn run_file(rt: &HostRuntime, path: &str) -> io::Result<()> {
 }
 
 fn main(rt: HostRuntime) -> io::Result<()> {
-    run_file(&rt, "rows.txt")?;
-    run_file(&rt, "problems.txt")
+    let alloc = rt.alloc();
+    let mut rules: Vec<Rule> = Vec::new(alloc);
+    rules.push(Rule::new(Box::new(alloc, |gate: Gate| constant_and(gate))?))?;
+    rules.push(Rule::new(Box::new(alloc, |gate: Gate| constant_xor(gate))?))?;
+    let rules = RuleSet::new(rules);
+    run_file(&rt, "rows.txt", &rules)?;
+    run_file(&rt, "problems.txt", &rules)
 }

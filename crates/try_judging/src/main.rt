@@ -1,10 +1,12 @@
-//! Judges pairs of routines whose answers another program told, checks each certificate and replays
-//! each start, and prints how many are as told.
+//! Judges pairs of routines whose answers another program told, with no rules and with the rules that
+//! the program hands in, checks each certificate and replays each start, and prints how many are as
+//! told.
 #![tactic(auto)]
 
 use hp_io::{MemSink, MemSource};
 use hp16c_commands::hp16c;
-use jd_rules::RuleSet;
+use jd_circuit::Gate;
+use jd_rules::{Rule, RuleSet, constant_and, constant_xor};
 use std::alloc::{AllocError, Global};
 use std::{fs, io};
 
@@ -85,13 +87,25 @@ fn is_borne_out(alloc: Global, judged: Answer, rules: &RuleSet) -> Result<bool, 
     }
 }
 
-/// Whether a pair is judged as allowed.
-fn is_as_told(alloc: Global, pair: Pair, rules: &RuleSet) -> Result<bool, AllocError> {
-    let judged = run_command(alloc, "judge", pair.problem, rules)?;
-    Ok(pair.allowed.as_slice().contains(&judged.status) && is_borne_out(alloc, judged, rules)?)
+/// Whether a pair is judged as allowed, alike with no rules and with these.
+fn is_as_told(
+    alloc: Global,
+    pair: Pair,
+    none: &RuleSet,
+    rules: &RuleSet,
+) -> Result<bool, AllocError> {
+    let Pair { allowed, problem } = pair;
+    let plain = run_command(alloc, "judge", problem.clone()?, none)?;
+    let judged = run_command(alloc, "judge", problem, rules)?;
+    Ok(
+        allowed.as_slice().contains(&judged.status)
+            && plain.status == judged.status
+            && is_borne_out(alloc, plain, none)?
+            && is_borne_out(alloc, judged, rules)?,
+    )
 }
 
-fn run_file(rt: &HostRuntime, path: &str, rules: &RuleSet) -> io::Result<()> {
+fn run_file(rt: &HostRuntime, path: &str, none: &RuleSet, rules: &RuleSet) -> io::Result<()> {
     let text = fs::read_to_string(rt, path)?;
     let pairs = read_pairs(rt.alloc(), text.as_str())?;
     let count = pairs.len();
@@ -99,17 +113,22 @@ fn run_file(rt: &HostRuntime, path: &str, rules: &RuleSet) -> io::Result<()> {
     let mut good: u64 = 0;
     for pair in pairs {
         number = number.saturating_add(1);
-        if is_as_told(rt.alloc(), pair, rules)? {
+        if is_as_told(rt.alloc(), pair, none, rules)? {
             good = good.saturating_add(1);
         } else {
             println!(rt; "{path}: pair {number}: not as told")?;
         }
     }
-    println!(rt; "{path}: {good} of {count} as told")
+    println!(rt; "{path}: {good} of {count} as told by no rules and by two")
 }
 
 fn main(rt: HostRuntime) -> io::Result<()> {
-    let rules = RuleSet::new(Vec::new(rt.alloc()));
-    run_file(&rt, "pairs.txt", &rules)?;
-    run_file(&rt, "rows.txt", &rules)
+    let alloc = rt.alloc();
+    let none = RuleSet::new(Vec::new(alloc));
+    let mut rules: Vec<Rule> = Vec::new(alloc);
+    rules.push(Rule::new(Box::new(alloc, |gate: Gate| constant_and(gate))?))?;
+    rules.push(Rule::new(Box::new(alloc, |gate: Gate| constant_xor(gate))?))?;
+    let rules = RuleSet::new(rules);
+    run_file(&rt, "pairs.txt", &none, &rules)?;
+    run_file(&rt, "rows.txt", &none, &rules)
 }
