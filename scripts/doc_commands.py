@@ -1,0 +1,68 @@
+#!/usr/bin/env python3
+"""Runs each command of README.md and docs/ that is written with `./hp16c`, and compares what it prints.
+
+usage: scripts/doc_commands.py     at the top of the repository, where the program is proved and built
+
+In a fenced block a line that begins with `$ ` is a command, and the lines up to the next one are what it
+prints. In a line of prose "`COMMAND` prints `TEXT`" says the same. The commands of a file run in one new
+folder, in which `hp16c` and `examples` stand. The key files of `examples/` with displays run too. Exits 1
+where something else is printed.
+"""
+
+import re
+import subprocess
+import sys
+import tempfile
+from pathlib import Path
+
+ROOT = Path(__file__).resolve().parent.parent
+
+
+def blocks(text):
+    """The commands of the fenced blocks, each with what it prints."""
+    for block in re.findall(r"^```\n(.*?)^```", text, re.M | re.S):
+        for piece in re.split(r"^\$ ", block, flags=re.M)[1:]:
+            command, _, printed = piece.partition("\n")
+            yield command, printed
+
+
+def in_prose(text):
+    """The commands that a line says to print something, and those of which it doesn't say what."""
+    for command, printed in re.findall(r"`(\./hp16c [^`]*)`(?: prints `([^`]*)`)?", text):
+        yield command.replace("\\|", "|"), printed + "\n" if printed else None
+
+
+def commands(text):
+    for command, printed in blocks(text):
+        if "./hp16c" in command:
+            yield command, printed
+    for command, printed in in_prose(re.sub(r"^```\n.*?^```", "", text, flags=re.M | re.S)):
+        if ("<" in command or " gen " in command) and "NAME" not in command:
+            yield command, printed
+
+
+def runs_as_said(folder, command, printed):
+    run = subprocess.run(["sh", "-c", command], cwd=folder, stdin=subprocess.DEVNULL, capture_output=True, text=True)
+    good = printed is None or run.stdout == printed
+    print(f"{'as said' if good else 'NOT as said'}: {command}")
+    if not good:
+        print(f"said:\n{printed}printed:\n{run.stdout}")
+    return good
+
+
+def main():
+    good = True
+    for keys in sorted((ROOT / "examples").glob("*.displays")):
+        command = f"./hp16c keys < examples/{keys.stem}.keys"
+        good &= runs_as_said(ROOT, command, keys.read_text())
+    for path in [ROOT / "README.md", *sorted((ROOT / "docs").glob("*.md"))]:
+        with tempfile.TemporaryDirectory() as folder:
+            for name in ["hp16c", "examples"]:
+                (Path(folder) / name).symlink_to(ROOT / name)
+            for command, printed in commands(path.read_text()):
+                good &= runs_as_said(folder, command, printed)
+    sys.exit(0 if good else 1)
+
+
+if __name__ == "__main__":
+    main()
