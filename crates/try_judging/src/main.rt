@@ -10,8 +10,11 @@ use jd_rules::{Rule, RuleSet, constant_and, constant_xor};
 use std::alloc::{AllocError, Global};
 use std::{fs, io};
 
-/// The most bytes that a command may write.
-const ROOM: usize = 1 << 25;
+/// The most bytes that `judge` may write.
+const JUDGED_ROOM: usize = 1 << 25;
+
+/// The most bytes that `check` and `replay` may write.
+const ROOM: usize = 1 << 16;
 
 /// A problem, and the statuses with which its judgement may end.
 #[derive(Drop)]
@@ -53,16 +56,17 @@ fn read_pairs(alloc: Global, text: &str) -> Result<Vec<Pair>, AllocError> {
     Ok(pairs)
 }
 
-/// Does a command of one word.
+/// Does a command of one word, which may write so many bytes.
 fn run_command(
     alloc: Global,
     word: &str,
     input: Vec<u8>,
+    room: usize,
     rules: &RuleSet,
 ) -> Result<Answer, AllocError> {
     let words = vec![in alloc; String::from_str(alloc, word)?]?;
     let mut source = MemSource::new(input, Vec::new(alloc));
-    let mut sink = MemSink::new(vec![in alloc; 0u8; ROOM]?, Vec::new(alloc));
+    let mut sink = MemSink::new(vec![in alloc; 0u8; room]?, Vec::new(alloc));
     let outcome = hp16c(alloc, words.as_slice(), &mut source, &mut sink, rules);
     let mut output = Vec::new(alloc);
     output.extend_from_slice(sink.written())?;
@@ -76,11 +80,11 @@ fn run_command(
 fn is_borne_out(alloc: Global, judged: Answer, rules: &RuleSet) -> Result<bool, AllocError> {
     match judged.status {
         0 => {
-            let checked = run_command(alloc, "check", judged.output, rules)?;
+            let checked = run_command(alloc, "check", judged.output, ROOM, rules)?;
             Ok(checked.status == 0 && checked.output.as_slice() == b"equal\n".as_slice())
         }
         1 => {
-            let replayed = run_command(alloc, "replay", judged.output, rules)?;
+            let replayed = run_command(alloc, "replay", judged.output, ROOM, rules)?;
             Ok(replayed.status == 1 && replayed.output.as_slice().ends_with(b"differ\n"))
         }
         _ => Ok(true),
@@ -95,8 +99,8 @@ fn is_as_told(
     rules: &RuleSet,
 ) -> Result<bool, AllocError> {
     let Pair { allowed, problem } = pair;
-    let plain = run_command(alloc, "judge", problem.clone()?, none)?;
-    let judged = run_command(alloc, "judge", problem, rules)?;
+    let plain = run_command(alloc, "judge", problem.clone()?, JUDGED_ROOM, none)?;
+    let judged = run_command(alloc, "judge", problem, JUDGED_ROOM, rules)?;
     Ok(
         allowed.as_slice().contains(&judged.status)
             && plain.status == judged.status
