@@ -1,5 +1,5 @@
 -- A machine as control and data, and one operation done to it.
-use Rattle.std.specs.Prelude.{◌≡◌, List, Bool}
+use Rattle.std.specs.Prelude.{◌≡◌, List, [], Bool}
 use Rattle.hp_model.specs.declared.Stop.{Stop}
 use Rattle.hp_model.specs.Operations.{Operation}
 use Rattle.hp_model.specs.State.{Control as ControlState, Data, Machine as MachineState}
@@ -28,6 +28,10 @@ pub record Changes (old new : Machine) (op : Operation) (given : List Bool) : Ty
   pub control : control_of new ≡ control_of old
   pub answers : given ≡ answers (control_of old) op (data_of old)
   pub contents : data_step (control_of old) op given (data_of old) ≡ data_of new
+
+-- control takes the same way whatever the data is
+abbrev pub AsksNothing : Operation → Type 0
+AsksNothing op = (c : ControlState) (d : Data) → answers c op d ≡ []
 
 -- one operation, done to a machine
 pub record Steps (old new : Machine) (stop : Stop) (op : Operation) : Type 0 where

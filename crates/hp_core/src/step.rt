@@ -1,13 +1,13 @@
 // One operation: what it changes in the data, and then, from the answers of the data, in control.
-ghost use Rattle.std.specs.Prelude.{◌≡◌, ℕ, ◌≤◌, [], false, slice_index};
+ghost use Rattle.std.specs.Prelude.{◌≡◌, ℕ, ◌≤◌, [], true, false, slice_index};
 ghost use Rattle.hp_model.specs.Run.{operated};
 ghost use Rattle.hp_model.specs.Questions.{IsComplete};
 ghost use Rattle.hp_model.specs.ControlStep.{control_step};
 ghost use Rattle.hp_model.specs.WrittenNibbles.{writes};
-ghost use Rattle.hp_ops.specs.Meaning.{operation};
+ghost use Rattle.hp_ops.specs.Meaning.{operation, of_jump};
 ghost use Rattle.hp_core.specs.FromLines.{IsFromALine};
 ghost use Rattle.hp_core.specs.Fitting.{IsCut};
-ghost use Rattle.hp_core.specs.Machines.{Changes, KeepsLines, control_of, data_of, machine_of, step_of};
+ghost use Rattle.hp_core.specs.Machines.{AsksNothing, Changes, Steps, KeepsLines, control_of, data_of, machine_of, step_of};
 
 use crate::given::Given;
 use crate::machine::Machine;
@@ -18,7 +18,7 @@ use crate::{
 use arrayvec::ArrayVec;
 use hp_control::step_control;
 use hp_model::Stop;
-use hp_ops::Op;
+use hp_ops::{Jump, Op, Target};
 
 /// Does to the data what an operation of any group does, and answers what control asks.
 #[inline(always)]
@@ -60,6 +60,53 @@ fn decide(machine: &mut Machine, op: Op, given: &[bool]) -> Stop
     step_control(&mut machine.control, &machine.memory, op, given)
 }
 
+/// Whether a jump asks nothing: its label is named by itself, or there is none.
+#[inline(always)]
+fn asks_nothing(op: Jump) -> bool
+    ensures { result ≡ true → AsksNothing (of_jump op) }
+{
+    match op {
+        Jump::Goto(Target::Index) | Jump::Gosub(Target::Index) => false,
+        _ => true,
+    }
+}
+
+/// A jump that asks nothing. It stands apart, so that in the loop of runs it goes from its code to its
+/// end with no answers kept.
+#[inline(always)]
+fn take_jump(machine: &mut Machine, op: Jump) -> Stop
+    requires from { IsFromALine (of_jump op) machine.old.control.line }
+    requires silent { AsksNothing (of_jump op) }
+    ensures { Steps machine.old machine.new result (of_jump op) }
+{
+    decide(machine, Op::Jump(op), &[])
+}
+
+/// What an operation changes in the data, and then, from the answers, in control.
+#[inline(always)]
+fn ask_and_decide(machine: &mut Machine, op: Op) -> Stop
+    requires { IsFromALine (operation op) machine.old.control.line }
+    ensures { Steps machine.old machine.new result (operation op) }
+{
+    let mut given = ArrayVec::new();
+    change(machine, op, &mut given);
+    decide(machine, op, given.as_slice())
+}
+
+/// An operation of any group.
+#[inline(always)]
+fn operate(machine: &mut Machine, op: Op) -> Stop
+    requires { IsFromALine (operation op) machine.old.control.line }
+    ensures { Steps machine.old machine.new result (operation op) }
+{
+    if let Op::Jump(op) = op {
+        if asks_nothing(op) {
+            return take_jump(machine, op);
+        }
+    }
+    ask_and_decide(machine, op)
+}
+
 impl Machine {
     /// Does an operation, the line number standing at the line after it. Errors are those of the
     /// HP-16C Owner's Handbook, by their numbers: after one, all but digit entry is as it was.
@@ -72,8 +119,6 @@ impl Machine {
         ensures kept { (j : ℕ) → writes (operation op) (machine_of self.old) j ≡ false
             → slice_index self.new.memory.nibbles j ≡ slice_index self.old.memory.nibbles j }
     {
-        let mut given = ArrayVec::new();
-        change(self, op, &mut given);
-        decide(self, op, given.as_slice())
+        operate(self, op)
     }
 }
