@@ -1,6 +1,8 @@
-//! The commands of the program hp16c, and the call that does the one that the words name. `keys` reads
-//! and writes line by line; every other command reads its whole input first, and all of these have one
-//! form: a limit, what an answer to some bytes is, and a function that finds one.
+//! The commands of the program hp16c, and the call that does the one that the words name. `keys` writes
+//! the display of each line as it has read it, and `gen` reads nothing. Every other command reads its
+//! source to the end before it answers, and all of these have one form: a limit, what an answer to some
+//! bytes is, and a function that finds one. `check` takes its source line by line; the rest keep the
+//! bytes until they answer.
 //!
 //! - Doing what the words say: `hp16c`, which gives an `Outcome` of a `Status` and what is `Kept`.
 #![tactic(auto)]

@@ -1,4 +1,4 @@
-// The queries `asm` and `list`.
+// The commands `asm` and `list`.
 ghost use Rattle.std.specs.Prelude.{◌≡◌, ◌≤◌, length, IfOk};
 ghost use Rattle.hp16c_commands.specs.Assemble.{asm_answer};
 ghost use Rattle.hp16c_commands.specs.List.{list_answer};
