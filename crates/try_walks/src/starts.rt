@@ -28,17 +28,30 @@ fn value_on(alloc: Global, leaf: &Leaf, start: &[bool], l: Lit) -> Result<bool> 
     }
 }
 
+/// Whether all guards of a walk's path are true on a start.
+fn is_on_path(alloc: Global, walk: &Walk<'_, NoRules>, start: &[bool]) -> Result<bool> {
+    let cut = walk.leaf(Kind::Cut)?;
+    for guard in cut.guards.as_slice() {
+        if !value_on(alloc, &cut, start, *guard)? {
+            return Ok(false);
+        }
+    }
+    Ok(true)
+}
+
 /// Answers a question as it is on a start; or, where both runs are over, whether they differ.
 fn go_on(alloc: Global, walk: &mut Walk<'_, NoRules>, start: &[bool]) -> Result<Option<bool>> {
     match walk.next()? {
-        Next::Ask(l) => {
-            let cut = walk.leaf(Kind::Cut)?;
-            walk.answer(value_on(alloc, &cut, start, l)?)?;
+        Next::Ask(_) => {
+            walk.answer(false)?;
+            if !is_on_path(alloc, walk, start)? && !walk.back() {
+                bail!("a no can't be taken back");
+            }
             Ok(None)
         }
-        Next::Done(l) => {
+        Next::Done(_) => {
             let leaf = walk.leaf(Kind::Whole)?;
-            let differs = value_on(alloc, &leaf, start, l)?;
+            let differs = value_on(alloc, &leaf, start, leaf.diff)?;
             Ok(Some(differs))
         }
     }
