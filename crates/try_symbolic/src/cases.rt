@@ -1,6 +1,6 @@
 //! The cases in which an operation is tried: a start without a free part, and a routine that comes to
 //! the operation and goes on after it.
-ghost use Rattle.std.specs.Prelude.{◌<◌};
+ghost use Rattle.std.specs.Prelude.{◌<◌, ◌≤◌};
 
 use crate::draws::Draws;
 use hp_ops::{HexDigit, Jump, Op, Place, Register, Registers, Setting, Stack, Target};
@@ -36,7 +36,9 @@ struct Parts {
 }
 
 /// The number of a mode in a problem.
-fn mode_number(mode: Mode) -> u8 {
+fn mode_number(mode: Mode) -> u8
+    ensures { result ≤ 2 }
+{
     match mode {
         Mode::Unsigned => 0,
         Mode::Ones => 1,
@@ -195,9 +197,15 @@ fn start_lines(alloc: Global, parts: &Parts) -> Result<String, AllocError> {
     let mut lines = format!(in alloc;
         "fix X {x:x}\nfix Y {y:x}\nfix Z {z:x}\nfix T {t:x}\nfix L {last:x}\nfix I {index:x}\n"
     )?;
-    let names = ["F0", "F1", "F2", "F3", "C", "G"];
-    for (place, name) in names.iter().enumerate() {
-        let bit = (flags >> (place as u32 % 64)) % 2;
+    for (place, name) in [
+        (0u32, "F0"),
+        (1, "F1"),
+        (2, "F2"),
+        (3, "F3"),
+        (4, "C"),
+        (5, "G"),
+    ] {
+        let bit = (flags >> (place % 64)) % 2;
         lines.push_str(format!(in alloc; "fix {name} {bit}\n")?.as_str())?;
     }
     lines.push_str("fix M 0\n")?;

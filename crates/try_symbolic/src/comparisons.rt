@@ -181,19 +181,24 @@ pub fn of_nibbles(stepped: &Machine, on_literals: &SymMachine) -> Option<Differe
     None
 }
 
-/// The first part but memory in which two machines differ after a line.
-pub fn of_line(stepped: (&Machine, Stop), on_literals: (&SymMachine, Stop)) -> Option<Difference> {
-    if stepped.1 != on_literals.1 {
+/// The first part but memory in which two machines differ after a line, which stopped like this.
+pub fn of_line(
+    stepped: &Machine,
+    stepped_stop: Stop,
+    on_literals: &SymMachine,
+    literal_stop: Stop,
+) -> Option<Difference> {
+    if stepped_stop != literal_stop {
         return Some(Difference::Stop {
-            stepped: stepped.1,
-            on_literals: on_literals.1,
+            stepped: stepped_stop,
+            on_literals: literal_stop,
         });
     }
-    if let Some(found) = of_control(&stepped.0.control, &on_literals.0.control) {
+    if let Some(found) = of_control(&stepped.control, &on_literals.control) {
         return Some(found);
     }
-    if let Some(found) = of_words(&stepped.0.content, &on_literals.0.content) {
+    if let Some(found) = of_words(&stepped.content, &on_literals.content) {
         return Some(found);
     }
-    of_flags(&stepped.0.content, &on_literals.0.content)
+    of_flags(&stepped.content, &on_literals.content)
 }

@@ -33,9 +33,11 @@ fn difference(alloc: Global, case: Case) -> Result<Option<Difference>, Failure> 
 /// Prints a routine's lines.
 fn print_routine(rt: &impl Print, routine: &Routine) -> io::Result<()> {
     for code in routine.codes() {
-        let text = Op::at(*code).text();
-        let text = text.as_str();
-        println!(rt; "{text}")?;
+        if let Some(op) = Op::of_code(*code) {
+            let text = op.text();
+            let text = text.as_str();
+            println!(rt; "{text}")?;
+        }
     }
     Ok(())
 }

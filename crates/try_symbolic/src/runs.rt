@@ -118,7 +118,7 @@ fn go<W: Rewrite>(
     for _line in 0..MOST_LINES {
         let on_literals = do_line(machine, c, told)?;
         let stop = step_line(stepped)?;
-        let found = of_line((&*stepped, stop), (&*machine, on_literals));
+        let found = of_line(stepped, stop, machine, on_literals);
         if found.is_some() || stop != Stop::Go {
             return Ok((stop, found));
         }
