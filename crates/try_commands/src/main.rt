@@ -1,135 +1,30 @@
-//! Does commands over streams in memory, some of which fail at a call, and prints how many ended, wrote
-//! and read as their rows say.
+//! Does commands over streams, some of which fail at a call or have no end, and prints how many ended,
+//! wrote and read as their rows say, and how many calls of each run of `faults.txt` were let fail. With
+//! rows on standard input it does their commands alone, and prints how each ended.
 #![tactic(auto)]
 
-use hp_io::{MemSink, MemSource, next_byte};
-use hp16c_commands::hp16c;
-use jd_circuit::Gate;
-use jd_rules::{Rule, RuleSet, constant_and, constant_xor};
-use std::alloc::{AllocError, Global};
+mod faults;
+mod memory;
+mod rows;
+mod runs;
+mod streams;
+
+use crate::faults::{Tried, fail_reads, fail_writes};
+use crate::memory::run_after;
+use crate::rows::{Row, read_rows};
+use crate::runs::{Pace, is_as_expected};
+use std::io::Read;
 use std::{fs, io};
 
-// A command, and what is to come of it. No call has the number 0.
-#[derive(Drop)]
-struct Row {
-    title: String,
-    words: Vec<String>,
-    input: Vec<u8>,
-    failing_read: u64,
-    failing_write: u64,
-    status: u8,
-    output: Vec<u8>,
-    next: Option<u8>,
-}
-
-fn new_row(alloc: Global, title: &str) -> Result<Row, AllocError> {
-    Ok(Row {
-        title: String::from_str(alloc, title)?,
-        words: Vec::new(alloc),
-        input: Vec::new(alloc),
-        failing_read: 0,
-        failing_write: 0,
-        status: 0,
-        output: Vec::new(alloc),
-        next: None,
-    })
-}
-
-// The byte that stands after a backslash in a row.
-fn escaped(byte: u8) -> u8 {
-    match byte {
-        b'n' => b'\n',
-        b't' => b'\t',
-        b'r' => b'\r',
-        b's' => b' ',
-        other => other,
-    }
-}
-
-// Appends the bytes that a text says, in which a backslash stands before an n, t, r or s.
-fn push_text(bytes: &mut Vec<u8>, text: &str) -> Result<(), AllocError> {
-    let mut after_backslash = false;
-    for byte in text.as_bytes() {
-        if after_backslash {
-            bytes.push(escaped(*byte))?;
-            after_backslash = false;
-        } else if *byte == b'\\' {
-            after_backslash = true;
-        } else {
-            bytes.push(*byte)?;
-        }
-    }
-    Ok(())
-}
-
-// Appends a text as often as the number before it says.
-fn push_times(bytes: &mut Vec<u8>, line: &str) -> Result<(), AllocError> {
-    if let Some((count, text)) = line.split_once(" ") {
-        for _ in 0..count.parse::<u32>().unwrap_or(0) {
-            push_text(bytes, text)?;
-        }
-    }
-    Ok(())
-}
-
-fn push_words(words: &mut Vec<String>, alloc: Global, line: &str) -> Result<(), AllocError> {
-    for word in line.split(" ") {
-        words.push(String::from_str(alloc, word)?)?;
-    }
-    Ok(())
-}
-
-// Takes a line of a row: what it is about, a blank, and what it says.
-fn take_line(alloc: Global, row: &mut Row, line: &str) -> Result<(), AllocError> {
-    let (name, rest) = line.split_once(" ").unwrap_or((line, ""));
-    match name {
-        "words" => push_words(&mut row.words, alloc, rest)?,
-        "input" => push_text(&mut row.input, rest)?,
-        "times" => push_times(&mut row.input, rest)?,
-        "output" => push_text(&mut row.output, rest)?,
-        "read" => row.failing_read = rest.parse().unwrap_or(0),
-        "write" => row.failing_write = rest.parse().unwrap_or(0),
-        "status" => row.status = rest.parse().unwrap_or(0),
-        "next" => row.next = rest.as_bytes().first().copied(),
-        _ => {}
-    }
-    Ok(())
-}
-
-fn read_rows(alloc: Global, text: &str) -> Result<Vec<Row>, AllocError> {
-    let mut rows: Vec<Row> = Vec::new(alloc);
-    for line in text.lines() {
-        if let Some(title) = line.strip_prefix("row ") {
-            rows.push(new_row(alloc, title)?)?;
-        } else if let Some(row) = rows.last_mut() {
-            take_line(alloc, row, line)?;
-        }
-    }
-    Ok(rows)
-}
-
-// Does a row's command.
-fn is_as_expected(alloc: Global, row: Row, rules: &RuleSet) -> Result<bool, AllocError> {
-    let room = vec![in alloc; 0u8; row.output.len().saturating_add(1)]?;
-    let mut source = MemSource::new(row.input, vec![in alloc; row.failing_read]?);
-    let mut sink = MemSink::new(room, vec![in alloc; row.failing_write]?);
-    let outcome = hp16c(alloc, row.words.as_slice(), &mut source, &mut sink, rules);
-    let next = next_byte(&mut source).unwrap_or(None);
-    Ok(
-        outcome.status.number() == row.status
-            && sink.written() == row.output.as_slice()
-            && next == row.next,
-    )
-}
-
-fn run_file(rt: &HostRuntime, path: &str, rules: &RuleSet) -> io::Result<()> {
+/// Does the commands of a file's rows.
+fn run_file(rt: &HostRuntime, path: &str) -> io::Result<()> {
     let text = fs::read_to_string(rt, path)?;
     let rows = read_rows(rt.alloc(), text.as_str())?;
     let count = rows.len();
     let mut good: u64 = 0;
     for row in rows {
         let title = String::from_str(rt.alloc(), row.title.as_str())?;
-        if is_as_expected(rt.alloc(), row, rules)? {
+        if is_as_expected(rt.alloc(), row)? {
             good = good.saturating_add(1);
         } else {
             println!(rt; "{path}: {title}: not as expected")?;
@@ -138,12 +33,68 @@ fn run_file(rt: &HostRuntime, path: &str, rules: &RuleSet) -> io::Result<()> {
     println!(rt; "{path}: {good} of {count} as expected")
 }
 
-fn main(rt: HostRuntime) -> io::Result<()> {
+/// Says what came of letting a row's reads or writes fail.
+fn print_tried(rt: &HostRuntime, title: &str, calls: &str, tried: &Tried) -> io::Result<()> {
+    match tried {
+        Tried::AsDue(count) => println!(rt; "{title}: {count} {calls} that fail"),
+        Tried::Wrong { call, ended } => {
+            let text = String::from_utf8_lossy(rt.alloc(), ended.output.as_slice())?;
+            let status = ended.status;
+            println!(rt;
+                "{title}: {calls}: the one with number {call} gives status {status} and\n{text}"
+            )
+        }
+    }
+}
+
+/// Lets each read and each write of a row's command fail, at either pace.
+fn try_faults(rt: &HostRuntime, row: &Row) -> io::Result<()> {
     let alloc = rt.alloc();
-    let mut rules: Vec<Rule> = Vec::new(alloc);
-    rules.push(Rule::new(Box::new(alloc, |gate: Gate| constant_and(gate))?))?;
-    rules.push(Rule::new(Box::new(alloc, |gate: Gate| constant_xor(gate))?))?;
-    let rules = RuleSet::new(rules);
-    run_file(&rt, "rows.txt", &rules)?;
-    run_file(&rt, "problems.txt", &rules)
+    let title = row.title.as_str();
+    let tried = fail_reads(alloc, row, Pace::AllAtOnce)?;
+    print_tried(rt, title, "reads", &tried)?;
+    let tried = fail_writes(alloc, row, Pace::AllAtOnce)?;
+    print_tried(rt, title, "writes", &tried)?;
+    let tried = fail_reads(alloc, row, Pace::ByteByByte)?;
+    print_tried(rt, title, "reads of a byte", &tried)?;
+    let tried = fail_writes(alloc, row, Pace::ByteByByte)?;
+    print_tried(rt, title, "writes of a byte", &tried)
+}
+
+fn try_faults_of_file(rt: &HostRuntime, path: &str) -> io::Result<()> {
+    let text = fs::read_to_string(rt, path)?;
+    for row in read_rows(rt.alloc(), text.as_str())? {
+        try_faults(rt, &row)?;
+    }
+    Ok(())
+}
+
+/// Does the commands of a text's rows, and prints how each ended.
+fn print_ends(rt: &HostRuntime, text: &str) -> io::Result<()> {
+    for row in read_rows(rt.alloc(), text)? {
+        let (ended, before) = run_after(rt.alloc(), &row)?;
+        let verdict = if ended.is_as_due(&row) {
+            "as due"
+        } else {
+            "not as due"
+        };
+        let title = row.title.as_str();
+        let count = ended.output.len();
+        let status = ended.status;
+        println!(rt;
+            "{title}: status {status}, {count} bytes, {verdict}, after {before} allocations"
+        )?;
+    }
+    Ok(())
+}
+
+fn main(rt: HostRuntime) -> io::Result<()> {
+    let mut text = String::new(rt.alloc());
+    rt.stdin().read_to_string(&mut text)?;
+    if !text.is_empty() {
+        return print_ends(&rt, text.as_str());
+    }
+    run_file(&rt, "rows.txt")?;
+    run_file(&rt, "problems.txt")?;
+    try_faults_of_file(&rt, "faults.txt")
 }

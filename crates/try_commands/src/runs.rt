@@ -1,0 +1,118 @@
+//! Runs of the commands of rows.
+use crate::rows::Row;
+use crate::streams::{EndlessSource, SlowSink, SlowSource};
+use hp_io::{MemSink, MemSource, next_byte};
+use hp16c_commands::{Kept, Outcome, hp16c};
+use jd_rules::RuleSet;
+use std::alloc::{AllocError, Global};
+
+/// How many bytes the streams of a run move at a call.
+#[derive(Clone, Copy, Debug, PartialEq, Eq)]
+pub enum Pace {
+    /// All that there is room for.
+    AllAtOnce,
+    /// One.
+    ByteByByte,
+}
+
+/// The calls of a run's streams that fail. No call has the number 0.
+#[derive(Clone, Copy, Debug, PartialEq, Eq)]
+pub struct Failing {
+    pub read: u64,
+    pub write: u64,
+}
+
+impl Failing {
+    /// A read alone.
+    pub fn read(number: u64) -> Failing {
+        Failing {
+            read: number,
+            write: 0,
+        }
+    }
+
+    /// A write alone.
+    pub fn write(number: u64) -> Failing {
+        Failing {
+            read: 0,
+            write: number,
+        }
+    }
+}
+
+/// How a run ended.
+#[derive(Drop)]
+pub struct Ended {
+    pub status: u8,
+    pub keeps: bool,
+    pub output: Vec<u8>,
+}
+
+impl Ended {
+    /// Whether the status and the output are those of a row.
+    pub fn is_as_due(&self, row: &Row) -> bool {
+        self.status == row.status && self.output.as_slice() == row.output.as_slice()
+    }
+}
+
+/// What a command gave, and what its sink took.
+fn end_of(alloc: Global, outcome: Outcome, written: &[u8]) -> Result<Ended, AllocError> {
+    Ok(Ended {
+        status: outcome.status.number(),
+        keeps: !matches!(outcome.kept, Kept::Nothing),
+        output: Vec::from_slice(alloc, written)?,
+    })
+}
+
+/// Room for what a row's command writes, and a byte more.
+fn room(alloc: Global, row: &Row) -> Result<Vec<u8>, AllocError> {
+    Ok(vec![in alloc; 0u8; row.output.len().saturating_add(1)]?)
+}
+
+/// Does a row's command over its input.
+pub fn run(alloc: Global, row: &Row, pace: Pace, failing: Failing) -> Result<Ended, AllocError> {
+    let rules = RuleSet::new(Vec::new(alloc));
+    let words = row.words.as_slice();
+    let input = row.input.clone()?;
+    match pace {
+        Pace::AllAtOnce => {
+            let mut source = MemSource::new(input, vec![in alloc; failing.read]?);
+            let mut sink = MemSink::new(room(alloc, row)?, vec![in alloc; failing.write]?);
+            let outcome = hp16c(alloc, words, &mut source, &mut sink, &rules);
+            end_of(alloc, outcome, sink.written())
+        }
+        Pace::ByteByByte => {
+            let mut source = SlowSource::new(input, failing.read);
+            let mut sink = SlowSink::new(Vec::new(alloc), failing.write);
+            let outcome = hp16c(alloc, words, &mut source, &mut sink, &rules);
+            end_of(alloc, outcome, sink.written())
+        }
+    }
+}
+
+/// Does a row's command over the source without an end, and answers whether it ends as the row says.
+fn ends_as_expected(alloc: Global, row: &Row) -> Result<bool, AllocError> {
+    let rules = RuleSet::new(Vec::new(alloc));
+    let mut source = EndlessSource::new();
+    let mut sink = MemSink::new(room(alloc, row)?, Vec::new(alloc));
+    let outcome = hp16c(alloc, row.words.as_slice(), &mut source, &mut sink, &rules);
+    Ok(outcome.status.number() == row.status && sink.written() == row.output.as_slice())
+}
+
+/// Does a row's command, and answers whether it ends, writes and leaves what the row says.
+pub fn is_as_expected(alloc: Global, row: Row) -> Result<bool, AllocError> {
+    if row.endless {
+        return ends_as_expected(alloc, &row);
+    }
+    let room = room(alloc, &row)?;
+    let mut source = MemSource::new(row.input, vec![in alloc; row.failing_read]?);
+    let mut sink = MemSink::new(room, vec![in alloc; row.failing_write]?);
+    let rules = RuleSet::new(Vec::new(alloc));
+    let outcome = hp16c(alloc, row.words.as_slice(), &mut source, &mut sink, &rules);
+    let next = next_byte(&mut source).unwrap_or(None);
+    Ok(
+        outcome.status.number() == row.status
+            && sink.written() == row.output.as_slice()
+            && next == row.next,
+    )
+}
