@@ -25,13 +25,30 @@ struct Variable {
     /// Its place in the heap, or one beyond the end.
     place: usize,
     phase: bool,
+    /// Whether it stands in a clause.
+    occurs: bool,
 }
 
-/// Variables by activity, the greatest first among equals: a heap, with what is known of each.
+/// A variable that no conflict met, outside the heap.
+fn unmet() -> Variable {
+    Variable {
+        activity: 0,
+        level: 0,
+        conflict: 0,
+        place: NO_PLACE,
+        phase: false,
+        occurs: false,
+    }
+}
+
+/// Variables by activity, the greatest first among equals: a heap, with what is known of each. What
+/// stands in no clause comes last, by a count down: most inputs of a judge's question are so.
 #[derive(Drop)]
 pub struct Order {
     variables: Vec<Variable>,
     heap: Vec<u32>,
+    /// The variables up to this one weren't counted yet.
+    rest: u32,
     step: u64,
     conflict: u32,
 }
@@ -58,29 +75,39 @@ impl Order {
     /// All variables of clauses and the inputs, none of them met by a conflict.
     pub fn new(alloc: Global, clauses: &Clauses, inputs: u32) -> Result<Order, NoMemory> {
         let count = greatest_of(clauses, inputs);
+        let mut variables = Vec::new(alloc);
+        variables.resize(count as usize + 1, unmet())?;
         let mut order = Order {
-            variables: Vec::new(alloc),
+            variables,
             heap: Vec::new(alloc),
+            rest: count,
             step: FIRST_STEP,
             conflict: 0,
         };
-        order.add_variable(NO_PLACE)?;
+        for at in 0..clauses.len() {
+            order.note_clause(clauses.clause(at));
+        }
         for i in 0..count {
-            order.add_variable((count - 1 - i) as usize)?;
-            order.heap.push(count - i)?;
+            if order.occurs(count - i) {
+                order.put_back(count - i)?;
+            }
         }
         Ok(order)
     }
 
-    fn add_variable(&mut self, place: usize) -> Result<(), NoMemory> {
-        self.variables.push(Variable {
-            activity: 0,
-            level: 0,
-            conflict: 0,
-            place,
-            phase: false,
-        })?;
-        Ok(())
+    /// Notes that the variables of a clause stand in one.
+    fn note_clause(&mut self, clause: &[i32]) {
+        for l in clause {
+            let at = l.unsigned_abs() as usize;
+            if at < self.variables.len() {
+                self.variables[at].occurs = true;
+            }
+        }
+    }
+
+    fn occurs(&self, variable: u32) -> bool {
+        let at = variable as usize;
+        at < self.variables.len() && self.variables[at].occurs
     }
 
     fn activity(&self, variable: u32) -> u64 {
@@ -269,18 +296,44 @@ impl Order {
         at < self.variables.len() && self.variables[at].phase
     }
 
-    /// The next variable as the literal to be decided, or 0 where none is left. Variables that have
-    /// a value are passed over.
-    pub fn next(&mut self, trail: &Trail) -> i32 {
+    /// A variable as the literal to be decided, or 0 where it has a value.
+    fn open_literal(&self, trail: &Trail, variable: u32) -> i32 {
+        if 0 < variable && variable < 0x8000_0000 {
+            let l = variable as i32;
+            if !trail.has(l) && !trail.has(-l) {
+                return if self.phase(variable) { l } else { -l };
+            }
+        }
+        0
+    }
+
+    /// The next variable of the heap as the literal to be decided, or 0 where none is left.
+    fn next_in_heap(&mut self, trail: &Trail) -> i32 {
         for _ in 0..self.heap.len() {
             let Some(variable) = self.take_first() else {
                 return 0;
             };
-            if 0 < variable && variable < 0x8000_0000 {
-                let l = variable as i32;
-                if !trail.has(l) && !trail.has(-l) {
-                    return if self.phase(variable) { l } else { -l };
-                }
+            let l = self.open_literal(trail, variable);
+            if l != 0 {
+                return l;
+            }
+        }
+        0
+    }
+
+    /// The next variable as the literal to be decided, or 0 where none is left. Variables that have
+    /// a value are passed over.
+    pub fn next(&mut self, trail: &Trail) -> i32 {
+        let l = self.next_in_heap(trail);
+        if l != 0 {
+            return l;
+        }
+        for _ in 0..self.rest {
+            let variable = self.rest;
+            self.rest = variable.saturating_sub(1);
+            let l = self.open_literal(trail, variable);
+            if l != 0 {
+                return l;
             }
         }
         0
