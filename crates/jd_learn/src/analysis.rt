@@ -1,6 +1,6 @@
 //! What a conflict teaches: the first unique implication point and the earlier literals that lead
 //! to the conflict with it, with hints that show the clause of their negations.
-ghost use Rattle.std.specs.Prelude.{◌≡◌, ◌+◌, ◌<◌, ◌^◌, ◌++◌, ◌∷◌, [], IfOk, OnOk, length, slice_index_or, pos};
+ghost use Rattle.std.specs.Prelude.{◌≡◌, ◌+◌, ◌<◌, ◌^◌, ◌++◌, ◌∷◌, [], IfOk, MatchOption, OnOk, length, slice_index_or, pos};
 ghost use Rattle.jd_logic.specs.Literals.{IsLiteral};
 ghost use Rattle.jd_propagate.specs.Hints.{IsFalseBy};
 ghost use Rattle.jd_propagate.specs.Passing.{clause_of};
@@ -60,35 +60,62 @@ fn is_covered(order: &Order, marks: &[bool], l: i32) -> bool
     order.level(l) == 0 || is_marked(marks, key(-l))
 }
 
-/// Whether the literals that make one true at a place of the trail are needed anyway.
-fn is_implied(order: &Order, solver: &Solver, marks: &[bool], l: i32, at: usize) -> bool {
+/// A literal's negation.
+fn negated(l: i32) -> i32
+    requires { IsLiteral l }
+{
+    -l
+}
+
+/// How many clauses are gone through, one behind another, where it is asked whether a literal
+/// follows: the longer the way, the more hints a line has.
+const DEPTH: u32 = 5;
+
+/// The watched clause that made a literal's variable true or false.
+fn clause_behind(order: &Order, solver: &Solver, l: i32) -> Option<usize>
+    ensures { MatchOption result (Unit {0}) (λ c. c < length solver.now.long) }
+{
+    let at = order.place_in_trail(l);
     if at >= solver.reasons.len() {
-        return false;
+        return None;
     }
     let Reason::Clause(c) = solver.reasons[at] else {
-        return false;
+        return None;
     };
     if c >= solver.long.len() {
+        return None;
+    }
+    Some(c)
+}
+
+/// Whether a true literal follows from literals that are needed anyway, as far as clauses of a
+/// given depth show.
+fn follows(order: &mut Order, solver: &Solver, marks: &[bool], l: i32, depth: u32) -> bool {
+    if let Some(found) = order.found(l) {
+        return found;
+    }
+    if depth == 0 {
         return false;
     }
+    let Some(c) = clause_behind(order, solver, l) else {
+        return false;
+    };
     for m in solver.long.clause(c) {
-        if *m != l && !is_covered(order, marks, *m) {
+        if *m != l
+            && !is_covered(order, marks, *m)
+            && !follows(order, solver, marks, negated(*m), depth - 1)
+        {
+            order.note_found(l, false);
             return false;
         }
     }
+    order.note_found(l, true);
     true
 }
 
 /// Whether a literal that is needed stays in the line: as the unique implication point, or since
-/// an earlier decision made it true and others don't stand for it.
-fn stays(
-    order: &Order,
-    solver: &Solver,
-    front: &mut Front,
-    marks: &[bool],
-    l: i32,
-    at: usize,
-) -> bool {
+/// an earlier decision made it true and it doesn't follow from others.
+fn stays(order: &mut Order, solver: &Solver, front: &mut Front, marks: &[bool], l: i32) -> bool {
     let level = order.level(l);
     if level == 0 {
         return false;
@@ -97,7 +124,7 @@ fn stays(
         front.open = front.open.wrapping_sub(1);
         return front.open == 0;
     }
-    !is_implied(order, solver, marks, l, at)
+    !follows(order, solver, marks, l, DEPTH)
 }
 
 /// Notes the place of the second literal that is kept.
@@ -192,7 +219,6 @@ fn pass_needed(
         &mut analysis.front,
         analysis.marks.as_slice(),
         l,
-        at,
     ) {
         return keep(clauses, solver, analysis, l, at);
     }

@@ -20,8 +20,13 @@ struct Variable {
     activity: u64,
     /// The decisions before it became true or false, where it has a value.
     level: u32,
+    /// Its place in the trail, where it has a value.
+    at: usize,
     /// The last conflict that met it.
     conflict: u32,
+    /// The last conflict that asked whether it follows from what the line has, and the answer.
+    asked: u32,
+    follows: bool,
     /// Its place in the heap, or one beyond the end.
     place: usize,
     phase: bool,
@@ -34,7 +39,10 @@ fn unmet() -> Variable {
     Variable {
         activity: 0,
         level: 0,
+        at: 0,
         conflict: 0,
+        asked: 0,
+        follows: false,
         place: NO_PLACE,
         phase: false,
         occurs: false,
@@ -268,13 +276,46 @@ impl Order {
         }
     }
 
-    /// Notes the decisions before literals that became true.
-    pub fn set_levels(&mut self, literals: &[i32], level: u32) {
+    /// The place in the trail of a literal's variable.
+    pub fn place_in_trail(&self, l: i32) -> usize {
+        let at = l.unsigned_abs() as usize;
+        if at < self.variables.len() {
+            self.variables[at].at
+        } else {
+            0
+        }
+    }
+
+    /// What this conflict found where it asked whether a literal follows from what the line has.
+    pub fn found(&self, l: i32) -> Option<bool> {
+        let at = l.unsigned_abs() as usize;
+        if at < self.variables.len() && self.variables[at].asked == self.conflict {
+            Some(self.variables[at].follows)
+        } else {
+            None
+        }
+    }
+
+    /// Notes whether a literal follows from what the line of this conflict has.
+    pub fn note_found(&mut self, l: i32, follows: bool) {
+        let at = l.unsigned_abs() as usize;
+        if at < self.variables.len() {
+            self.variables[at].asked = self.conflict;
+            self.variables[at].follows = follows;
+        }
+    }
+
+    /// Notes the decisions before literals that became true, and their places in the trail, which
+    /// are one behind another.
+    pub fn set_levels(&mut self, literals: &[i32], from: usize, level: u32) {
+        let mut place = from;
         for l in literals {
             let at = l.unsigned_abs() as usize;
             if at < self.variables.len() {
                 self.variables[at].level = level;
+                self.variables[at].at = place;
             }
+            place = place.saturating_add(1);
         }
     }
 

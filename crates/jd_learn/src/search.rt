@@ -53,7 +53,7 @@ fn level_of(solver: &Solver) -> u32 {
 fn note_levels(solver: &Solver, order: &mut Order, from: usize) {
     let literals = solver.trail.literals();
     if from <= literals.len() {
-        order.set_levels(&literals[from..], level_of(solver));
+        order.set_levels(&literals[from..], from, level_of(solver));
     }
 }
 
