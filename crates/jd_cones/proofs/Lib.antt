@@ -1,0 +1,5 @@
+pub mod Marks
+pub mod Numbers
+pub mod Kept
+pub mod Faithful
+mod Examples

@@ -1,0 +1,4 @@
+pub mod Cones
+pub mod Marks
+pub mod Renaming
+pub mod Laws
