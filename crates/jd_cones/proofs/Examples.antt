@@ -1,10 +1,9 @@
 -- Which gates are marked and kept, worked by computation.
-use Rattle.std.proofs.Common.{◌≡◌, ℕ, suc, ◌+◌, Bool, true, false, List, [], ◌∷◌, ◌++◌, length, refl, arith}
-use Rattle.jd_circuit.specs.declared.literals.Lit.{Lit}
+use Rattle.std.proofs.Common.{◌≡◌, ℕ, suc, Bool, true, false, List, [], ◌∷◌, ◌++◌, length, refl, arith}
 use Rattle.jd_circuit.specs.declared.literals.Lit.TheVariants.{Const, Var, Not}
 use Rattle.jd_circuit.specs.declared.literals.Gate.{Gate}
 use Rattle.jd_circuit.specs.declared.literals.Gate.TheVariants.{And, Xor}
-use Rattle.jd_circuit.specs.Net.{Net, eval}
+use Rattle.jd_circuit.specs.Net.{eval}
 use Rattle.jd_cones.specs.Marks.{with_mark, passed}
 use Rattle.jd_cones.specs.Renaming.{renamed, number_after, gates_after}
 

@@ -1,5 +1,5 @@
 -- The cone of a faithful leaf is faithful.
-use Rattle.std.proofs.Common.{◌≡◌, ◌&&◌, Bool, true, List, length, map, refl, sym, ap, ◌∙◌, subst}
+use Rattle.std.proofs.Common.{◌≡◌, ◌&&◌, Bool, true, List, length, sym, ap, ◌∙◌, subst}
 use Rattle.std.specs.List.{list_all}
 use Rattle.std.proofs.lemmas.List.Folds.{list_all-map}
 use Rattle.hp_model.specs.State.{Data}

@@ -1,11 +1,10 @@
 -- What is kept of a leaf is its cone.
-use Rattle.std.proofs.Common.{◌≡◌, ℕ, ◌+◌, ◌<◌, ◌≤◌, Bool, true, List, [], ◌∷◌, ◌++◌, length, get_or, map, refl, sym, ap, ◌∙◌, subst, arith, length-append}
+use Rattle.std.proofs.Common.{◌≡◌, ℕ, ◌+◌, ◌≤◌, Bool, true, List, [], ◌∷◌, ◌++◌, length, get_or, map, refl, sym, ap, ◌∙◌, subst, arith, length-append}
 use Rattle.std.specs.Prelude.{All}
 use Rattle.std.proofs.lemmas.List.{get_or_append_left}
 use Rattle.std.proofs.lemmas.List.Elements.{All-nil, All-cons, All-head, All-tail, All-push}
 use Rattle.std.proofs.Math.Seq.{get_or-append_seam}
 use Rattle.jd_circuit.specs.declared.literals.Lit.{Lit}
-use Rattle.jd_circuit.specs.declared.literals.Lit.TheVariants.{Const}
 use Rattle.jd_circuit.specs.declared.literals.Gate.{Gate}
 use Rattle.jd_circuit.specs.Net.{eval, IsLit}
 use Rattle.jd_books.specs.Leaves.{Leaf, net_of, IsLeaf}

@@ -1,4 +1,4 @@
-use Rattle.std.proofs.Common.{◌≡◌, ◌+◌, ◌-◌, ◌<◌, ◌≤◌, length, arith, refl}
+use Rattle.std.proofs.Common.{◌≡◌, ◌+◌, ◌-◌, ◌<◌, ◌≤◌, length, arith}
 use Rattle.jd_cones.specs.Marks.{gate_at}
 use Rattle.jd_cones.proofs.Marks.{gate-passed, gate-wider, literals-at}
 use Rattle.jd_cones.proofs.marking.mark_gates.Goals as goal

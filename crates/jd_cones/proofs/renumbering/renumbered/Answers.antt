@@ -1,5 +1,4 @@
-use Rattle.std.proofs.Common.{◌≡◌, ◌+◌, ◌<◌, ◌≤◌, [], false, List, length, get_or, refl, sym, ap, subst, arith}
-use Rattle.jd_circuit.specs.declared.literals.Gate.{Gate}
+use Rattle.std.proofs.Common.{◌+◌, ◌<◌, ◌≤◌, false, length, get_or, refl, sym, subst, arith}
 use Rattle.jd_cones.specs.Marks.{gate_at}
 use Rattle.jd_cones.specs.Renaming.{IsRenaming}
 use Rattle.jd_cones.proofs.Marks.{gate-wider, literals-at}
