@@ -41,3 +41,9 @@ leaf-faithful p net path assumed guards saved first at next kind l wired w whole
     (subst (λ x. IsFaithful p (record { path = path; inputs = net.inputs; gates = net.gates; guards = assumed ++ guards; diff = x; kind = l.kind })) (sym e5)
     (subst (λ x. IsFaithful p (record { path = path; inputs = net.inputs; gates = net.gates; guards = assumed ++ guards; diff = diff_at next kind; kind = x })) (sym e6)
     (faithful-here p net path assumed guards at next kind wired w.spot w.said whole))))))
+
+-- leaves of equal parts
+pub same-leaf : (l m : Leaf) → l.path ≡ m.path → l.inputs ≡ m.inputs → l.gates ≡ m.gates → l.guards ≡ m.guards → l.diff ≡ m.diff → l.kind ≡ m.kind → l ≡ m
+same-leaf l m e1 e2 e3 e4 e5 e6 =
+    ap {B = Leaf} (λ x. record l { path = x }) e1 ∙ ap {B = Leaf} (λ x. record l { path = m.path; inputs = x }) e2 ∙ ap {B = Leaf} (λ x. record l { path = m.path; inputs = m.inputs; gates = x }) e3
+    ∙ ap {B = Leaf} (λ x. record m { guards = x; diff = l.diff; kind = l.kind }) e4 ∙ ap {B = Leaf} (λ x. record m { diff = x; kind = l.kind }) e5 ∙ ap {B = Leaf} (λ x. record m { kind = x }) e6

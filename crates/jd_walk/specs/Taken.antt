@@ -5,6 +5,7 @@ use Rattle.jd_circuit.specs.declared.literals.Lit.TheVariants.{Const}
 use Rattle.jd_trees.specs.declared.Kind.{Kind}
 use Rattle.jd_trees.specs.declared.Kind.TheVariants.{Whole, Cut}
 use Rattle.jd_books.specs.Leaves.{Leaf, IsFaithful}
+use Rattle.jd_cones.specs.Cones.{IsConeOf}
 use Rattle.jd_walk.specs.declared.places.Next.{Next}
 use Rattle.jd_walk.specs.declared.places.Next.TheVariants.{Done}
 use Rattle.jd_walk.specs.Walked.{Walked}
@@ -14,11 +15,17 @@ abbrev pub diff_at : Option Next → Kind → Lit
 diff_at (Some (Done l)) Whole = l
 diff_at _ _ = Const true
 
--- a faithful leaf of a walk's path, with all gates of its circuit
+-- the leaf of a walk's path, with all gates of its circuit
+abbrev pub leaf_at : Walked → Kind → Leaf
+leaf_at w kind = record { path = w.path; inputs = w.net.inputs; gates = w.net.gates; guards = w.guards; diff = diff_at w.next kind; kind = kind }
+
+pub record IsWholeLeafOf (w : Walked) (kind : Kind) (l : Leaf) : Type 0 where
+  pub is : l ≡ leaf_at w kind
+  pub faithful : IsFaithful w.problem l
+
+-- a faithful leaf of a walk's path, with the gates alone that its guards and its difference stand on
 pub record IsLeafOf (w : Walked) (kind : Kind) (l : Leaf) : Type 0 where
   pub path : l.path ≡ w.path
   pub kind_is : l.kind ≡ kind
-  pub gates : l.gates ≡ w.net.gates
-  pub guards : l.guards ≡ w.guards
-  pub diff : l.diff ≡ diff_at w.next kind
+  pub cone : IsConeOf (leaf_at w kind) l
   pub faithful : IsFaithful w.problem l

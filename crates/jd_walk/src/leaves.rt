@@ -2,12 +2,13 @@
 ghost use Rattle.std.specs.Prelude.{◌≡◌, ◌≤◌, ◌^◌, ◌++◌, false, true, length, IfOk};
 ghost use Rattle.jd_trees.specs.declared.Kind.TheVariants.{Whole};
 ghost use Rattle.jd_leaves.specs.Views.{leaf_of};
-ghost use Rattle.jd_walk.specs.Taken.{diff_at, IsLeafOf};
+ghost use Rattle.jd_walk.specs.Taken.{diff_at, IsWholeLeafOf, IsLeafOf};
 ghost use Rattle.jd_walk.specs.Walked.{is_done};
 
 use crate::places::Next;
 use crate::walks::Walk;
 use jd_circuit::{Gates, Lit, NoMemory, Rewrite};
+use jd_cones::cone;
 use jd_leaves::{Guards, Kind, Leaf, Path};
 use std::alloc::Global;
 
@@ -51,12 +52,11 @@ fn limited(gates: Gates) -> Result<Gates, NoMemory>
 }
 
 impl<'r, W: Rewrite> Walk<'r, W> {
-    /// The leaf of the walk's path. A cut has the difference true; a whole leaf has the literal that
-    /// the last `next` said, which was Done.
-    pub fn leaf(&self, kind: Kind) -> Result<Leaf, NoMemory>
+    /// The leaf of the walk's path, with all gates of its circuit.
+    fn whole_leaf(&self, kind: Kind) -> Result<Leaf, NoMemory>
         requires unspent { self.now.spent ≡ false }
         requires whole { kind ≡ Whole → is_done self.now.next ≡ true }
-        ensures { IfOk result (λ l. IsLeafOf self.now kind (leaf_of l)) }
+        ensures { IfOk result (λ l. IsWholeLeafOf self.now kind (leaf_of l)) }
     {
         Ok(Leaf {
             path: Path::of(self.alloc, self.path.as_slice())?,
@@ -66,5 +66,17 @@ impl<'r, W: Rewrite> Walk<'r, W> {
             diff: diff_of(self.next, kind),
             kind,
         })
+    }
+
+    /// The leaf of the walk's path, with the gates alone that its guards and its difference stand
+    /// on. A cut has the difference true; a whole leaf has the literal that the last `next` said,
+    /// which was Done.
+    pub fn leaf(&self, kind: Kind) -> Result<Leaf, NoMemory>
+        requires unspent { self.now.spent ≡ false }
+        requires whole { kind ≡ Whole → is_done self.now.next ≡ true }
+        ensures { IfOk result (λ l. IsLeafOf self.now kind (leaf_of l)) }
+    {
+        let leaf = cone(self.alloc, self.whole_leaf(kind)?)?;
+        Ok(leaf)
     }
 }
