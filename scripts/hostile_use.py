@@ -42,7 +42,8 @@ def hostile_problems():
     yield "a path for each of 8 bits", problem(8, "X", ones(8), ["#B"])
     yield "a path for each of 12 bits", problem(12, "X", ones(12), ["#B"])
     yield "a path for each of 16 bits", problem(16, "X", ones(16), ["#B"])
-    yield "a product in either order", problem(64, "X", ["*"], ["x<>y", "*"])
+    products = ["STO 0", "RDN", "x<>y", "STO 1", "*", "RCL 0", "RCL 1", "*", "+"]
+    yield "a product of a sum, and the sum of both products", problem(64, "X", ["+", "*"], products)
     products = called(["DBL*"], 5)
     yield "950 double products in either order", problem(64, "X Y", products, ["x<>y", *products])
     yield "950 double quotients, each of which may err", problem(64, "X Y", called(["DBL/"], 5), called(["DBLR"], 5))
