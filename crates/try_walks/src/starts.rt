@@ -1,4 +1,6 @@
 //! Walks along the paths that starts take.
+ghost use Rattle.std.specs.Prelude.{◌≡◌, false};
+
 use crate::values::{value, values};
 use anyhow::{Result, bail};
 use jd_circuit::{Lit, NoRules};
@@ -29,7 +31,9 @@ fn value_on(alloc: Global, leaf: &Leaf, start: &[bool], l: Lit) -> Result<bool> 
 }
 
 /// Whether all guards of a walk's path are true on a start.
-fn is_on_path(alloc: Global, walk: &Walk<'_, NoRules>, start: &[bool]) -> Result<bool> {
+fn is_on_path(alloc: Global, walk: &Walk<'_, NoRules>, start: &[bool]) -> Result<bool>
+    requires { walk.now.spent ≡ false }
+{
     let cut = walk.leaf(Kind::Cut)?;
     for guard in cut.guards.as_slice() {
         if !value_on(alloc, &cut, start, *guard)? {
