@@ -59,21 +59,26 @@ fn of_operation(alloc: Global, op: Op, bits: u8) -> Result<[Gates; 3], Failure> 
     Ok(gates)
 }
 
+/// Prints the gates of an operation at a size where it adds some, and says whether it does.
+fn print_gates(rt: &impl Print, name: &str, bits: u8, gates: [Gates; 3]) -> io::Result<bool> {
+    let [unsigned, ones, twos] = gates;
+    let steps = (unsigned.step, ones.step, twos.step);
+    let questions = (unsigned.questions, ones.questions, twos.questions);
+    if steps == (0, 0, 0) && questions == (0, 0, 0) {
+        return Ok(false);
+    }
+    println!(rt; "{name} at {bits} bits {steps:?} questions {questions:?}")?;
+    Ok(true)
+}
+
 /// Prints the gates of an operation that adds some, and says whether it does.
 fn print_operation(rt: &impl Print, alloc: Global, op: Op) -> io::Result<bool> {
     let name = op.text();
+    let name = name.as_str();
     let mut adds = false;
     for bits in SIZES {
         match of_operation(alloc, op, bits) {
-            Ok([unsigned, ones, twos]) => {
-                let steps = (unsigned.step, ones.step, twos.step);
-                let questions = (unsigned.questions, ones.questions, twos.questions);
-                if steps != (0, 0, 0) || questions != (0, 0, 0) {
-                    let name = name.as_str();
-                    adds = true;
-                    println!(rt; "{name} at {bits} bits {steps:?} questions {questions:?}")?;
-                }
-            }
+            Ok(gates) => adds |= print_gates(rt, name, bits, gates)?,
             Err(failure) => println!(rt; "{failure:?}")?,
         }
     }

@@ -1,4 +1,4 @@
-//! Each operation at seven sizes and in three modes, each time from another start. Of operations that
+//! Each operation at seven sizes and in three modes, each time from four starts. Of operations that
 //! differ by a number alone one is tried so, and the others at 16 bits.
 use crate::cases::Case;
 use crate::comparisons::Difference;
@@ -13,6 +13,9 @@ use std::io;
 const SIZES: [u8; 7] = [1, 4, 6, 8, 16, 63, 64];
 
 const MODES: [Mode; 3] = [Mode::Unsigned, Mode::Ones, Mode::Twos];
+
+/// From how many starts an operation is tried at a size and in a mode.
+const STARTS: u8 = 4;
 
 /// How many of an operation's cases are as stepped, and of how many.
 #[derive(Clone, Copy)]
@@ -60,7 +63,7 @@ fn try_case(rt: &impl Print, alloc: Global, case: Case, tally: &mut Tally) -> io
     Ok(())
 }
 
-/// Tries an operation at a size, in each mode from a start of its own.
+/// Tries an operation at a size, in each mode and from each start.
 fn try_size(
     rt: &impl Print,
     alloc: Global,
@@ -68,14 +71,16 @@ fn try_size(
     size: WordSize,
     tally: &mut Tally,
 ) -> io::Result<()> {
-    for mode in MODES {
-        let case = Case {
-            op,
-            size,
-            mode,
-            number: (tally.cases % 4) as u8,
-        };
-        try_case(rt, alloc, case, tally)?;
+    for number in 0..STARTS {
+        for mode in MODES {
+            let case = Case {
+                op,
+                size,
+                mode,
+                number,
+            };
+            try_case(rt, alloc, case, tally)?;
+        }
     }
     Ok(())
 }

@@ -1,6 +1,6 @@
 //! One routine on two machines: each line is done on literals and on numbers, and then they are
 //! compared.
-ghost use Rattle.std.specs.Prelude.{◌≡◌, ◌*◌, ◌≤◌, ◌^◌, ◌<◌, IfOk, length};
+ghost use Rattle.std.specs.Prelude.{◌≡◌, ◌-◌, ◌*◌, ◌≤◌, ◌^◌, ◌<◌, IfOk, length};
 ghost use Rattle.jd_model.specs.Problems.{free_bits};
 ghost use Rattle.jd_problem.specs.Problems.{problem_of};
 ghost use Rattle.jd_symbolic.specs.Machine.{Stands};
@@ -53,6 +53,7 @@ fn within(size: WordSize, content: Content) -> Content
     ensures l { result.l ≤ 2 ^ size.bits - 1 }
 {
     let most = size.mask();
+    let flags = content.flags;
     Content {
         x: content.x.min(most),
         y: content.y.min(most),
@@ -60,7 +61,7 @@ fn within(size: WordSize, content: Content) -> Content
         t: content.t.min(most),
         l: content.l.min(most),
         i: content.i,
-        flags: content.flags,
+        flags,
     }
 }
 
