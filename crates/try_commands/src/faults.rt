@@ -46,7 +46,7 @@ fn due_at_read(row: &Row, call: u64) -> &[u8] {
         .words
         .first()
         .is_some_and(|word| word.as_str() == "keys");
-    if !is_keys || call == 0 || call > row.input.len() as u64 {
+    if !is_keys || call == 0 || call - 1 > row.input.len() as u64 {
         return &[];
     }
     let taken = &row.input[..(call - 1) as usize];
