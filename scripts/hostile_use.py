@@ -42,8 +42,8 @@ def hostile_problems():
     yield "a path for each of 8 bits", problem(8, "X", ones(8), ["#B"])
     yield "a path for each of 12 bits", problem(12, "X", ones(12), ["#B"])
     yield "a path for each of 16 bits", problem(16, "X", ones(16), ["#B"])
-    products = ["STO 0", "RDN", "x<>y", "STO 1", "*", "RCL 0", "RCL 1", "*", "+"]
-    yield "a product of a sum, and the sum of both products", problem(64, "X", ["+", "*"], products)
+    both = ["STO 0", "RDN", "x<>y", "STO 1", "*", "RCL 0", "RCL 1", "*", "+"]
+    yield "a product of a sum, and the sum of both products", problem(64, "X", ["+", "*"], both)
     products = called(["DBL*"], 5)
     yield "950 double products in either order", problem(64, "X Y", products, ["x<>y", *products])
     yield "950 double quotients, each of which may err", problem(64, "X Y", called(["DBL/"], 5), called(["DBLR"], 5))
@@ -129,7 +129,7 @@ def long_inputs(uses, folder):
         ("lrat", "268,435,456 bytes of lines", [b"1\n" * 2_048] * 65_536, [4]),
         ("lrat", "a byte more than it reads", [b"1\n" * 2_048] * 65_536 + [b"1"], [5]),
         ("keys", "a million blanks", [b" " * 1_000_000], [0]),
-        ("keys", "endless runs", [b"g R/S g GTO 0 CLREG GTO 0 g R/S\n"] + [b"R/S\n"] * 200_000, [0]),
+        ("keys", "endless runs", [b"g R/S g GTO 0 GTO 0 g R/S\n"] + [b"R/S\n"] * 200_000, [0]),
     ]
     for word, title, pieces, wanted in cases:
         path = file_of(folder, "input", pieces)
