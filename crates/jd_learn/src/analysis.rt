@@ -1,6 +1,6 @@
 //! What a conflict teaches: the first unique implication point and the earlier literals that lead
 //! to the conflict with it, with hints that show the clause of their negations.
-ghost use Rattle.std.specs.Prelude.{◌≡◌, ◌+◌, ◌<◌, ◌^◌, ◌++◌, ◌∷◌, [], IfOk, MatchOption, OnOk, length, slice_index_or, pos};
+ghost use Rattle.std.specs.Prelude.{◌≡◌, ◌+◌, ◌<◌, ◌^◌, IfOk, MatchOption, OnOk, length, slice_index_or, pos};
 ghost use Rattle.jd_logic.specs.Literals.{IsLiteral};
 ghost use Rattle.jd_propagate.specs.Hints.{IsFalseBy};
 ghost use Rattle.jd_propagate.specs.Passing.{clause_of};
@@ -10,10 +10,10 @@ ghost use Rattle.jd_learn.specs.Learning.{IsLearning};
 ghost use Rattle.jd_learn.specs.Taught.{IsAnalysed, IsTaught};
 
 use crate::order::Order;
-use jd_propagate::trail::{is_marked, key};
+use jd_propagate::trail::{is_marked, key, negation};
 use jd_propagate::{Clauses, NoMemory, Reason};
 use jd_prover::Solver;
-use jd_prover::explain::{id_of, is_needed, literal_of, mark_clause, push_hint, reason_of};
+use jd_prover::explain::{id_of, is_needed, literal_at, mark_clause, push_hint, reason_of};
 use std::alloc::Global;
 
 /// Where the way back over the trail stands: the decisions, the literals met of the last decision's
@@ -57,14 +57,7 @@ fn meet_all(order: &mut Order, front: &mut Front, clause: &[i32]) {
 fn is_covered(order: &Order, marks: &[bool], l: i32) -> bool
     requires { IsLiteral l }
 {
-    order.level(l) == 0 || is_marked(marks, key(-l))
-}
-
-/// A literal's negation.
-fn negated(l: i32) -> i32
-    requires { IsLiteral l }
-{
-    -l
+    order.level(l) == 0 || is_marked(marks, key(negation(l)))
 }
 
 /// How many clauses are gone through, one behind another, where it is asked whether a literal
@@ -75,7 +68,7 @@ const DEPTH: u32 = 5;
 fn clause_behind(order: &Order, solver: &Solver, l: i32) -> Option<usize>
     ensures { MatchOption result (Unit {0}) (λ c. c < length solver.now.long) }
 {
-    let at = order.place_in_trail(l);
+    let at = order.trail_place(l);
     if at >= solver.reasons.len() {
         return None;
     }
@@ -103,7 +96,7 @@ fn follows(order: &mut Order, solver: &Solver, marks: &[bool], l: i32, depth: u3
     for m in solver.long.clause(c) {
         if *m != l
             && !is_covered(order, marks, *m)
-            && !follows(order, solver, marks, negated(*m), depth - 1)
+            && !follows(order, solver, marks, negation(*m), depth - 1)
         {
             order.note_found(l, false);
             return false;
@@ -113,15 +106,21 @@ fn follows(order: &mut Order, solver: &Solver, marks: &[bool], l: i32, depth: u3
     true
 }
 
-/// Whether a literal that is needed stays in the line: as the unique implication point, or since
-/// an earlier decision made it true and it doesn't follow from others.
-fn stays(order: &mut Order, solver: &Solver, front: &mut Front, marks: &[bool], l: i32) -> bool {
+/// Counts a literal of the last decision's as passed.
+fn count_passed(order: &Order, front: &mut Front, l: i32) {
+    if order.level(l) == front.level {
+        front.open = front.open.wrapping_sub(1);
+    }
+}
+
+/// Whether a literal that was needed, and is passed, stays in the line: as the unique implication
+/// point, or since an earlier decision made it true and it doesn't follow from others.
+fn stays(order: &mut Order, solver: &Solver, front: Front, marks: &[bool], l: i32) -> bool {
     let level = order.level(l);
     if level == 0 {
         return false;
     }
     if level == front.level {
-        front.open = front.open.wrapping_sub(1);
         return front.open == 0;
     }
     !follows(order, solver, marks, l, DEPTH)
@@ -169,6 +168,7 @@ fn resolve(
     requires analysed { IsAnalysed _clauses.now solver.now analysis.old (at + 1) }
     ensures { OnOk result (IsAnalysed _clauses.now solver.now analysis.new at) }
 {
+    // For the fact that no literal of the trail stands beside its negation.
     let _literals = solver.trail.literals();
     let literals = solver.long.clause(clause);
     meet_all(order, &mut analysis.front, literals);
@@ -191,6 +191,7 @@ fn resolve_unit(
     requires analysed { IsAnalysed _clauses.now solver.now analysis.old (at + 1) }
     ensures { OnOk result (IsAnalysed _clauses.now solver.now analysis.new at) }
 {
+    // For the fact that no literal of the trail stands beside its negation.
     let _literals = solver.trail.literals();
     push_hint(&mut analysis.hints, id)?;
     Ok(())
@@ -213,13 +214,9 @@ fn pass_needed(
     requires analysed { IsAnalysed clauses.now solver.now analysis.old (at + 1) }
     ensures { OnOk result (IsAnalysed clauses.now solver.now analysis.new at) }
 {
-    if stays(
-        order,
-        solver,
-        &mut analysis.front,
-        analysis.marks.as_slice(),
-        l,
-    ) {
+    count_passed(order, &mut analysis.front, l);
+    let marks = analysis.marks.as_slice();
+    if stays(order, solver, analysis.front, marks, l) {
         return keep(clauses, solver, analysis, l, at);
     }
     match reason_of(solver, at) {
@@ -243,7 +240,7 @@ fn pass(
     requires analysed { IsAnalysed clauses.now solver.now analysis.old (at + 1) }
     ensures { OnOk result (IsAnalysed clauses.now solver.now analysis.new at) }
 {
-    let l = literal_of(solver, at);
+    let l = literal_at(solver, at);
     if !is_needed(analysis.marks.as_slice(), l) {
         return Ok(());
     }

@@ -1,5 +1,5 @@
 //! The way back to where a taught line gives something, and the line as one more clause.
-ghost use Rattle.std.specs.Prelude.{◌≡◌, ◌≢◌, ◌⊎◌, ℕ, ◌+◌, ◌-◌, ◌<◌, ◌≤◌, ◌^◌, ℤ, neg_ℤ, pos, [], ◌∷◌, false, not, MatchBool, IfOk, OnOk, length, take, slice_index, slice_index_or};
+ghost use Rattle.std.specs.Prelude.{◌≡◌, ◌⊎◌, ℕ, ◌+◌, ◌-◌, ◌<◌, ◌^◌, ℤ, neg_ℤ, [], ◌∷◌, false, MatchBool, IfOk, OnOk, length, take, slice_index};
 ghost use Rattle.jd_logic.specs.Literals.{IsLiteral, AreLiterals, AreHints, has};
 ghost use Rattle.jd_proving.specs.Propagation.{has_value};
 ghost use Rattle.jd_propagate.specs.Quiet.{IsIn, IsWithin};
@@ -14,9 +14,7 @@ use crate::analysis::Taught;
 use crate::order::Order;
 use jd_propagate::attach::watch;
 use jd_propagate::{Clause, Clauses, Hints, Line, NoMemory, Reason, Trail};
-use jd_prover::Solver;
-use jd_prover::line::negations;
-use jd_prover::solver::make_true;
+use jd_prover::{Solver, make_true, negations};
 use std::alloc::Global;
 
 /// Takes back all decisions but so many.
@@ -52,17 +50,6 @@ fn are_true(trail: &Trail, literals: &[i32]) -> bool
     true
 }
 
-/// Whether a literal has no value.
-pub fn is_open(trail: &Trail, l: i32) -> bool
-    requires { IsLiteral l }
-    ensures { result ≡ not (has_value trail.now l) }
-{
-    if trail.has(l) {
-        return false;
-    }
-    !trail.has(-l)
-}
-
 /// Whether taught literals are true still, but for the last, which has no value.
 fn is_giving(trail: &Trail, kept: &[i32]) -> bool
     requires { AreLiterals kept.now }
@@ -72,7 +59,7 @@ fn is_giving(trail: &Trail, kept: &[i32]) -> bool
     if count == 0 || !are_true(trail, &kept[..count - 1]) {
         return false;
     }
-    if !is_open(trail, kept[count - 1]) {
+    if trail.has_value(kept[count - 1]) {
         return false;
     }
     true
@@ -111,6 +98,7 @@ fn taught_line(
     requires small { id < 2 ^ 62 }
     ensures { IsNextLine _clauses.now _solver.now result (negated _kept.now) id }
 {
+    // For the fact that no literal of the trail stands beside its negation.
     let _literals = _solver.trail.literals();
     Line::Derive {
         id,
@@ -186,8 +174,82 @@ fn add_watched(
     Ok(())
 }
 
-/// Adds what a conflict taught, once the way back was gone; false where it gives nothing, with the
-/// search unchanged.
+/// Adds one literal that a conflict taught, where no decision stands.
+fn teach_unit(
+    alloc: Global,
+    clauses: &Clauses,
+    solver: &mut Solver,
+    taught: Taught,
+) -> Result<bool, NoMemory>
+    requires quiet { IsQuietSearch clauses.now solver.old }
+    requires taught { IsTaught clauses.now solver.old taught }
+    requires small { length clauses.now + length solver.old.lines.items < 2 ^ 61 }
+    requires giving { IsGiving solver.old.trail taught.kept.items }
+    requires one { length taught.kept.items ≡ 1 }
+    ensures { IfOk result (λ done. IsTaughtTo clauses.now (length solver.old.lines.items) solver.new done) }
+{
+    if !solver.limits.is_empty() {
+        return Ok(false);
+    }
+    let Taught {
+        kept,
+        hints,
+        second: _,
+    } = taught;
+    let id = clauses.len() as u64 + solver.lines.len() as u64 + 1;
+    let literals = negations(alloc, kept.as_slice())?;
+    let last = literals[0];
+    let line = taught_line(clauses, solver, literals, kept.as_slice(), hints, id);
+    add_unit(clauses, solver, last, line, id)?;
+    Ok(true)
+}
+
+/// Adds a clause of more literals that a conflict taught, where the last but one became true after
+/// the last decision.
+fn teach_watched(
+    alloc: Global,
+    clauses: &Clauses,
+    solver: &mut Solver,
+    taught: Taught,
+) -> Result<bool, NoMemory>
+    requires quiet { IsQuietSearch clauses.now solver.old }
+    requires taught { IsTaught clauses.now solver.old taught }
+    requires small { length clauses.now + length solver.old.lines.items < 2 ^ 61 }
+    requires giving { IsGiving solver.old.trail taught.kept.items }
+    requires more { 1 < length taught.kept.items }
+    ensures { IfOk result (λ done. IsTaughtTo clauses.now (length solver.old.lines.items) solver.new done) }
+{
+    let Taught {
+        kept,
+        hints,
+        second,
+    } = taught;
+    // For the fact that no literal of the trail stands beside its negation.
+    let _literals = solver.trail.literals();
+    let count = kept.len();
+    if !is_late(solver, kept[count - 2], second) {
+        return Ok(false);
+    }
+    let id = clauses.len() as u64 + solver.lines.len() as u64 + 1;
+    let literals = negations(alloc, kept.as_slice())?;
+    let clause = negations(alloc, kept.as_slice())?;
+    let line = taught_line(clauses, solver, clause, kept.as_slice(), hints, id);
+    let last = literals[count - 1];
+    let earlier = literals[count - 2];
+    add_watched(
+        alloc,
+        clauses,
+        solver,
+        literals.as_slice(),
+        last,
+        earlier,
+        line,
+        id,
+    )?;
+    Ok(true)
+}
+
+/// Adds what a conflict taught, once the way back was gone; false where it gives nothing.
 pub fn teach(
     alloc: Global,
     clauses: &Clauses,
@@ -199,41 +261,11 @@ pub fn teach(
     requires small { length clauses.now + length solver.old.lines.items < 2 ^ 61 }
     ensures { IfOk result (λ done. IsTaughtTo clauses.now (length solver.old.lines.items) solver.new done) }
 {
-    let Taught {
-        kept,
-        hints,
-        second,
-    } = taught;
-    let _literals = solver.trail.literals();
-    if !is_giving(&solver.trail, kept.as_slice()) {
+    if !is_giving(&solver.trail, taught.kept.as_slice()) {
         return Ok(false);
     }
-    let id = clauses.len() as u64 + solver.lines.len() as u64 + 1;
-    let literals = negations(alloc, kept.as_slice())?;
-    let count = kept.len();
-    let last = literals[count - 1];
-    if count == 1 {
-        if !solver.limits.is_empty() {
-            return Ok(false);
-        }
-        let line = taught_line(clauses, solver, literals, kept.as_slice(), hints, id);
-        add_unit(clauses, solver, last, line, id)?;
-        return Ok(true);
+    if taught.kept.len() == 1 {
+        return teach_unit(alloc, clauses, solver, taught);
     }
-    if !is_late(solver, kept[count - 2], second) {
-        return Ok(false);
-    }
-    let clause = negations(alloc, kept.as_slice())?;
-    let line = taught_line(clauses, solver, clause, kept.as_slice(), hints, id);
-    add_watched(
-        alloc,
-        clauses,
-        solver,
-        literals.as_slice(),
-        last,
-        literals[count - 2],
-        line,
-        id,
-    )?;
-    Ok(true)
+    teach_watched(alloc, clauses, solver, taught)
 }

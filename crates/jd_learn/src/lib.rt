@@ -3,11 +3,11 @@
 //! The search: `prove`, which answers as `jd_prover::prove` does.
 #![tactic(auto)]
 
-pub mod analysis;
-pub mod learning;
-pub mod order;
-pub mod restarts;
-pub mod search;
+mod analysis;
+mod learning;
+mod order;
+mod restarts;
+mod search;
 
 pub use jd_propagate::Proof;
 pub use search::prove;

@@ -1,18 +1,26 @@
 //! Which variable is decided next, and as which literal: the one that conflicts met most often of
 //! late, with the value that it had last. Answers don't rest on it, so that nothing is promised but
-//! that it is safe.
+//! that it is safe, and that what is to be decided is a literal without a value.
+ghost use Rattle.std.specs.Prelude.{◌≡◌, ◌<◌, ◌^◌, false, MatchOption};
+ghost use Rattle.jd_logic.specs.Literals.{IsLiteral};
+ghost use Rattle.jd_proving.specs.Propagation.{has_value};
+
+use jd_propagate::trail::negation;
 use jd_propagate::{Clauses, NoMemory, Trail};
+use jd_prover::BOUND;
+use jd_prover::decide::literal_of;
 use std::alloc::Global;
 
-/// The activity that one conflict gives at first, and the bound at which all are scaled down.
+/// The activity that the first conflict gives.
 const FIRST_STEP: u64 = 1 << 16;
 
+/// Each conflict gives more activity than the one before, by one part in so many.
+const DECAY: u64 = 19;
+
+/// Where a conflict gives more, all activities are scaled down by so many bits.
 const GREATEST_STEP: u64 = 1 << 58;
 
 const SCALE: u32 = 42;
-
-/// The place of what isn't in the heap.
-const NO_PLACE: usize = usize::MAX;
 
 /// What is known of a variable.
 #[derive(Clone, Copy)]
@@ -21,14 +29,14 @@ struct Variable {
     /// The decisions before it became true or false, where it has a value.
     level: u32,
     /// Its place in the trail, where it has a value.
-    at: usize,
+    trail_place: usize,
     /// The last conflict that met it.
     conflict: u32,
     /// The last conflict that asked whether it follows from what the line has, and the answer.
     asked: u32,
     follows: bool,
-    /// Its place in the heap, or one beyond the end.
-    place: usize,
+    /// Its place in the heap, where it is there.
+    heap_place: Option<usize>,
     phase: bool,
     /// Whether it stands in a clause.
     occurs: bool,
@@ -39,11 +47,11 @@ fn unmet() -> Variable {
     Variable {
         activity: 0,
         level: 0,
-        at: 0,
+        trail_place: 0,
         conflict: 0,
         asked: 0,
         follows: false,
-        place: NO_PLACE,
+        heap_place: None,
         phase: false,
         occurs: false,
     }
@@ -59,6 +67,16 @@ pub struct Order {
     rest: u32,
     step: u64,
     conflict: u32,
+}
+
+/// A variable's literal of a given sign.
+fn signed(variable: u32, positive: bool) -> i32
+    requires above { 0 < variable }
+    requires small { variable < 2 ^ 31 }
+    ensures { IsLiteral result }
+{
+    let l = literal_of(variable);
+    if positive { l } else { negation(l) }
 }
 
 /// The greatest variable of a clause, or a given one.
@@ -103,27 +121,34 @@ impl Order {
         Ok(order)
     }
 
+    fn known(&self, variable: u32) -> Option<&Variable> {
+        self.variables.get(variable as usize)
+    }
+
+    fn known_mut(&mut self, variable: u32) -> Option<&mut Variable> {
+        self.variables.get_mut(variable as usize)
+    }
+
     /// Notes that the variables of a clause stand in one.
     fn note_clause(&mut self, clause: &[i32]) {
         for l in clause {
-            let at = l.unsigned_abs() as usize;
-            if at < self.variables.len() {
-                self.variables[at].occurs = true;
+            if let Some(known) = self.known_mut(l.unsigned_abs()) {
+                known.occurs = true;
             }
         }
     }
 
     fn occurs(&self, variable: u32) -> bool {
-        let at = variable as usize;
-        at < self.variables.len() && self.variables[at].occurs
+        match self.known(variable) {
+            Some(known) => known.occurs,
+            None => false,
+        }
     }
 
     fn activity(&self, variable: u32) -> u64 {
-        let at = variable as usize;
-        if at < self.variables.len() {
-            self.variables[at].activity
-        } else {
-            0
+        match self.known(variable) {
+            Some(known) => known.activity,
+            None => 0,
         }
     }
 
@@ -134,19 +159,9 @@ impl Order {
         one_activity > other_activity || one_activity == other_activity && one > other
     }
 
-    fn place(&self, variable: u32) -> usize {
-        let at = variable as usize;
-        if at < self.variables.len() {
-            self.variables[at].place
-        } else {
-            NO_PLACE
-        }
-    }
-
-    fn set_place(&mut self, variable: u32, place: usize) {
-        let at = variable as usize;
-        if at < self.variables.len() {
-            self.variables[at].place = place;
+    fn set_heap_place(&mut self, variable: u32, place: Option<usize>) {
+        if let Some(known) = self.known_mut(variable) {
+            known.heap_place = place;
         }
     }
 
@@ -162,8 +177,8 @@ impl Order {
         }
         self.heap[upper] = below;
         self.heap[lower] = above;
-        self.set_place(below, upper);
-        self.set_place(above, lower);
+        self.set_heap_place(below, Some(upper));
+        self.set_heap_place(above, Some(lower));
         true
     }
 
@@ -214,25 +229,32 @@ impl Order {
     fn take_first(&mut self) -> Option<u32> {
         let last = self.heap.pop()?;
         if self.heap.is_empty() {
-            self.set_place(last, NO_PLACE);
+            self.set_heap_place(last, None);
             return Some(last);
         }
         let first = self.heap[0];
         self.heap[0] = last;
-        self.set_place(last, 0);
-        self.set_place(first, NO_PLACE);
+        self.set_heap_place(last, Some(0));
+        self.set_heap_place(first, None);
         self.lower(0);
         Some(first)
     }
 
+    fn is_in_heap(&self, variable: u32) -> bool {
+        match self.known(variable) {
+            Some(known) => known.heap_place.is_some(),
+            None => false,
+        }
+    }
+
     /// Puts a variable into the heap, where it isn't there.
     fn put_back(&mut self, variable: u32) -> Result<(), NoMemory> {
-        if self.place(variable) < self.heap.len() {
+        if self.is_in_heap(variable) {
             return Ok(());
         }
         let place = self.heap.len();
         self.heap.push(variable)?;
-        self.set_place(variable, place);
+        self.set_heap_place(variable, Some(place));
         self.raise(place);
         Ok(())
     }
@@ -244,20 +266,25 @@ impl Order {
 
     /// Whether the conflict meets a literal's variable for the first time; it is then more active.
     pub fn meet(&mut self, l: i32) -> bool {
-        let variable = l.unsigned_abs();
-        let at = variable as usize;
-        if at >= self.variables.len() || self.variables[at].conflict == self.conflict {
+        let conflict = self.conflict;
+        let step = self.step;
+        let Some(known) = self.known_mut(l.unsigned_abs()) else {
+            return false;
+        };
+        if known.conflict == conflict {
             return false;
         }
-        self.variables[at].conflict = self.conflict;
-        self.variables[at].activity = self.variables[at].activity.saturating_add(self.step);
-        self.raise(self.place(variable));
+        known.conflict = conflict;
+        known.activity = known.activity.saturating_add(step);
+        if let Some(place) = known.heap_place {
+            self.raise(place);
+        }
         true
     }
 
-    /// Ends a conflict: the next one gives more activity by a nineteenth.
+    /// Ends a conflict: the next one gives more activity.
     pub fn end_conflict(&mut self) {
-        self.step = self.step.saturating_add(self.step / 19);
+        self.step = self.step.saturating_add(self.step / DECAY);
         if self.step > GREATEST_STEP {
             self.step >>= SCALE;
             for at in 0..self.variables.len() {
@@ -268,29 +295,25 @@ impl Order {
 
     /// The decisions before a literal of the trail.
     pub fn level(&self, l: i32) -> u32 {
-        let at = l.unsigned_abs() as usize;
-        if at < self.variables.len() {
-            self.variables[at].level
-        } else {
-            0
+        match self.known(l.unsigned_abs()) {
+            Some(known) => known.level,
+            None => 0,
         }
     }
 
     /// The place in the trail of a literal's variable.
-    pub fn place_in_trail(&self, l: i32) -> usize {
-        let at = l.unsigned_abs() as usize;
-        if at < self.variables.len() {
-            self.variables[at].at
-        } else {
-            0
+    pub fn trail_place(&self, l: i32) -> usize {
+        match self.known(l.unsigned_abs()) {
+            Some(known) => known.trail_place,
+            None => 0,
         }
     }
 
     /// What this conflict found where it asked whether a literal follows from what the line has.
     pub fn found(&self, l: i32) -> Option<bool> {
-        let at = l.unsigned_abs() as usize;
-        if at < self.variables.len() && self.variables[at].asked == self.conflict {
-            Some(self.variables[at].follows)
+        let known = self.known(l.unsigned_abs())?;
+        if known.asked == self.conflict {
+            Some(known.follows)
         } else {
             None
         }
@@ -298,10 +321,10 @@ impl Order {
 
     /// Notes whether a literal follows from what the line of this conflict has.
     pub fn note_found(&mut self, l: i32, follows: bool) {
-        let at = l.unsigned_abs() as usize;
-        if at < self.variables.len() {
-            self.variables[at].asked = self.conflict;
-            self.variables[at].follows = follows;
+        let conflict = self.conflict;
+        if let Some(known) = self.known_mut(l.unsigned_abs()) {
+            known.asked = conflict;
+            known.follows = follows;
         }
     }
 
@@ -310,10 +333,9 @@ impl Order {
     pub fn set_levels(&mut self, literals: &[i32], from: usize, level: u32) {
         let mut place = from;
         for l in literals {
-            let at = l.unsigned_abs() as usize;
-            if at < self.variables.len() {
-                self.variables[at].level = level;
-                self.variables[at].at = place;
+            if let Some(known) = self.known_mut(l.unsigned_abs()) {
+                known.level = level;
+                known.trail_place = place;
             }
             place = place.saturating_add(1);
         }
@@ -323,9 +345,8 @@ impl Order {
     pub fn take_back(&mut self, literals: &[i32]) -> Result<(), NoMemory> {
         for l in literals {
             let variable = l.unsigned_abs();
-            let at = variable as usize;
-            if at < self.variables.len() {
-                self.variables[at].phase = *l > 0;
+            if let Some(known) = self.known_mut(variable) {
+                known.phase = *l > 0;
             }
             self.put_back(variable)?;
         }
@@ -333,50 +354,57 @@ impl Order {
     }
 
     fn phase(&self, variable: u32) -> bool {
-        let at = variable as usize;
-        at < self.variables.len() && self.variables[at].phase
-    }
-
-    /// A variable as the literal to be decided, or 0 where it has a value.
-    fn open_literal(&self, trail: &Trail, variable: u32) -> i32 {
-        if 0 < variable && variable < 0x8000_0000 {
-            let l = variable as i32;
-            if !trail.has(l) && !trail.has(-l) {
-                return if self.phase(variable) { l } else { -l };
-            }
+        match self.known(variable) {
+            Some(known) => known.phase,
+            None => false,
         }
-        0
     }
 
-    /// The next variable of the heap as the literal to be decided, or 0 where none is left.
-    fn next_in_heap(&mut self, trail: &Trail) -> i32 {
+    /// A variable as the literal to be decided, or None where it has a value.
+    fn open_literal(&self, trail: &Trail, variable: u32) -> Option<i32>
+        ensures { MatchOption result (Unit {0}) (λ l. IsLiteral l × (has_value trail.now l ≡ false)) }
+    {
+        if variable == 0 || variable >= BOUND {
+            return None;
+        }
+        let l = signed(variable, self.phase(variable));
+        if trail.has_value(l) {
+            return None;
+        }
+        Some(l)
+    }
+
+    /// The next variable of the heap as the literal to be decided, or None where none is left.
+    fn next_in_heap(&mut self, trail: &Trail) -> Option<i32>
+        ensures { MatchOption result (Unit {0}) (λ l. IsLiteral l × (has_value trail.now l ≡ false)) }
+    {
         for _ in 0..self.heap.len() {
-            let Some(variable) = self.take_first() else {
-                return 0;
-            };
-            let l = self.open_literal(trail, variable);
-            if l != 0 {
-                return l;
+            let variable = self.take_first()?;
+            let found = self.open_literal(trail, variable);
+            if found.is_some() {
+                return found;
             }
         }
-        0
+        None
     }
 
-    /// The next variable as the literal to be decided, or 0 where none is left. Variables that have
-    /// a value are passed over.
-    pub fn next(&mut self, trail: &Trail) -> i32 {
-        let l = self.next_in_heap(trail);
-        if l != 0 {
-            return l;
+    /// The next variable as the literal to be decided, or None where none is left. Variables that
+    /// have a value are passed over.
+    pub fn next(&mut self, trail: &Trail) -> Option<i32>
+        ensures { MatchOption result (Unit {0}) (λ l. IsLiteral l × (has_value trail.now l ≡ false)) }
+    {
+        let first = self.next_in_heap(trail);
+        if first.is_some() {
+            return first;
         }
         for _ in 0..self.rest {
             let variable = self.rest;
             self.rest = variable.saturating_sub(1);
-            let l = self.open_literal(trail, variable);
-            if l != 0 {
-                return l;
+            let found = self.open_literal(trail, variable);
+            if found.is_some() {
+                return found;
             }
         }
-        0
+        None
     }
 }

@@ -27,12 +27,14 @@ impl Restarts {
         self.conflicts = self.conflicts.saturating_add(1);
     }
 
-    /// Whether a restart is due; the count then begins again for the next term.
-    pub fn is_due(&mut self) -> bool {
+    /// Takes a restart where one is due: the count then begins again for the next term.
+    pub fn take_restart(&mut self) -> bool {
         if self.conflicts < self.term.saturating_mul(UNIT) {
             return false;
         }
         self.conflicts = 0;
+        // The term is the lowest bit of the place (Knuth's reluctant doubling). The bounds, which no
+        // search comes to, keep the product in range.
         if self.place % (2 * self.term.min(1 << 40).max(1)) == self.term {
             self.place = self.place.saturating_add(1);
             self.term = 1;

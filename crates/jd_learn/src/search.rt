@@ -11,16 +11,14 @@ ghost use Rattle.jd_learn.specs.Learning.{IsBegun, IsEnded, IsLearning, IsQuietS
 ghost use Rattle.jd_learn.specs.Outcomes.{IsTurned};
 
 use crate::analysis::analyse;
-use crate::learning::{cut, is_open, teach};
+use crate::learning::{cut, teach};
 use crate::order::Order;
 use crate::restarts::Restarts;
 use jd_propagate::propagate::propagate;
 use jd_propagate::{Bits, Clause, Clauses, Hints, Line, Log, NoMemory, Proof, Reason};
-use jd_prover::Solver;
 use jd_prover::decide::{literal_of, next_open, values};
-use jd_prover::search::refute_begun;
-use jd_prover::setup::{begin, has_empty, take_all};
-use jd_prover::solver::make_true;
+use jd_prover::setup::{Prepared, prepare};
+use jd_prover::{BOUND, Solver, make_true};
 use std::alloc::Global;
 
 /// What a turn of the search gives.
@@ -46,7 +44,11 @@ pub struct Guide {
 /// How many decisions there are.
 fn level_of(solver: &Solver) -> u32 {
     let count = solver.limits.len();
-    if count < 0x8000_0000 { count as u32 } else { 0 }
+    if count < BOUND as usize {
+        count as u32
+    } else {
+        0
+    }
 }
 
 /// Notes the level of the literals from a place of the trail on.
@@ -99,8 +101,7 @@ fn choose(order: &mut Order, solver: &Solver, inputs: u32) -> Option<i32>
         ((v : ℕ) → 0 < v → v ≤ inputs → has_value solver.now.trail (pos v) ≡ true)
         (λ l. IsLiteral l × (has_value solver.now.trail l ≡ false)) }
 {
-    let l = order.next(&solver.trail);
-    if l != 0 && l != i32::MIN && is_open(&solver.trail, l) {
+    if let Some(l) = order.next(&solver.trail) {
         return Some(l);
     }
     let variable = next_open(&solver.trail, 0, inputs)?;
@@ -136,6 +137,7 @@ fn descend(
     requires quiet { IsQuietSearch clauses.now solver.old }
     ensures { IfOk result (λ turn. IsTurned clauses.now inputs budget solver.new turn) }
 {
+    // For the fact that no literal of the trail stands beside its negation.
     let _literals = solver.trail.literals();
     match choose(order, solver, inputs) {
         None => Ok(Turned::Model(values(alloc, &solver.trail, inputs)?)),
@@ -235,7 +237,7 @@ fn turn(
     ensures { IfOk result (λ turn. IsTurned clauses.now inputs budget solver.new turn) }
 {
     let Some(clause) = conflict else {
-        if !solver.limits.is_empty() && guide.restarts.is_due() {
+        if !solver.limits.is_empty() && guide.restarts.take_restart() {
             cut(clauses, solver, &mut guide.order, 0)?;
             return Ok(Turned::Goes(None));
         }
@@ -289,6 +291,7 @@ fn search(
     };
     let mut solver = taken;
     let mut conflict = run(clauses, &mut solver, &mut guide.order, 0)?;
+    // 2^64 turns never pass: the bound stands in for a measure.
     'turns: for _ in 0..u64::MAX {
         match turn(
             alloc,
@@ -324,18 +327,11 @@ pub fn prove(alloc: Global, clauses: &Clauses, inputs: u32, budget: u32) -> Resu
     requires small { budget ≤ 2 ^ 20 }
     ensures { IfOk result (λ proof. IsAnswer clauses.now inputs budget proof) }
 {
-    if clauses.len() >= 0x8000_0000 || inputs >= 0x8000_0000 {
-        return Err(NoMemory);
-    }
-    if has_empty(clauses) {
-        return Ok(Proof::Refuted(Log::new(Vec::new(alloc))));
-    }
-    let mut solver = begin(alloc);
-    if let Some(conflict) = take_all(alloc, clauses, &mut solver)? {
-        return refute_begun(alloc, clauses, conflict, solver);
-    }
-    match search(alloc, clauses, inputs, budget, solver)? {
-        Some(proof) => Ok(proof),
-        None => jd_prover::prove(alloc, clauses, inputs, budget),
+    match prepare(alloc, clauses, inputs)? {
+        Prepared::Answered(proof) => Ok(proof),
+        Prepared::Ready(solver) => match search(alloc, clauses, inputs, budget, solver)? {
+            Some(proof) => Ok(proof),
+            None => jd_prover::prove(alloc, clauses, inputs, budget),
+        },
     }
 }

@@ -1,6 +1,6 @@
 //! Clauses that are to be watched.
 ghost use Rattle.std.specs.Prelude.{◌≡◌, ◌≢◌, ℕ, ℤ, ◌+◌, ◌<◌, ◌≤◌, ◌++◌, ◌∷◌, [], MatchBool, MatchOption, OnOk, length};
-ghost use Rattle.jd_logic.specs.Literals.{IsLiteral, AreLiterals};
+ghost use Rattle.jd_logic.specs.Literals.{AreLiterals};
 ghost use Rattle.jd_propagate.specs.Lists.{list_at};
 ghost use Rattle.jd_propagate.specs.Passing.{AreWatched};
 ghost use Rattle.jd_propagate.specs.Quiet.{IsIn};

@@ -6,12 +6,12 @@
 #![tactic(auto)]
 
 pub mod attach;
-pub mod lists;
-pub mod proof;
+mod lists;
+mod proof;
 pub mod propagate;
-pub mod reason;
+mod reason;
 pub mod trail;
-pub mod watch;
+mod watch;
 
 pub use jd_bits::Bits;
 pub use jd_lrat::{Clause, Clauses, Hints, Line, Log, NoMemory};

@@ -1,5 +1,5 @@
 //! True literals in the order made true.
-ghost use Rattle.std.specs.Prelude.{◌≡◌, ℕ, ◌+◌, ◌-◌, ◌^◌, ◌<◌, ◌≤◌, ◌≢◌, ℤ, neg_ℤ, [], ◌∷◌, ◌++◌, true, false, Bool, OnOk, length, take, slice_index_or, slice_set};
+ghost use Rattle.std.specs.Prelude.{◌≡◌, ℕ, ◌+◌, ◌-◌, ◌^◌, ◌<◌, ◌≤◌, ℤ, neg_ℤ, [], ◌∷◌, ◌++◌, true, false, OnOk, length, take, slice_index_or};
 ghost use Rattle.jd_logic.specs.Literals.{IsLiteral, AreLiterals, has};
 ghost use Rattle.jd_proving.specs.Propagation.{has_value};
 ghost use Rattle.jd_propagate.specs.Trails.{key_of, IsTrail};
@@ -36,6 +36,15 @@ pub fn key(l: i32) -> usize
     } else {
         2 * l as usize
     }
+}
+
+/// A literal's negation.
+pub fn negation(l: i32) -> i32
+    requires { IsLiteral l }
+    ensures same { result ≡ neg_ℤ l }
+    ensures literal { IsLiteral result }
+{
+    -l
 }
 
 /// Whether a key is marked.
@@ -90,6 +99,25 @@ impl Trail {
         ensures { result ≡ has self.now l }
     {
         is_marked(self.marks.as_slice(), key(l))
+    }
+
+    /// Whether a literal's negation is true.
+    pub fn is_false(&self, l: i32) -> bool
+        requires { IsLiteral l }
+        ensures { result ≡ has self.now (neg_ℤ l) }
+    {
+        self.has(-l)
+    }
+
+    /// Whether a literal is true or false.
+    pub fn has_value(&self, l: i32) -> bool
+        requires { IsLiteral l }
+        ensures { result ≡ has_value self.now l }
+    {
+        if self.has(l) {
+            return true;
+        }
+        self.has(-l)
     }
 
     /// Makes a literal true that has no value.

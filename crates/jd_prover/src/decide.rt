@@ -1,9 +1,7 @@
 //! Decisions, and the way back from them.
-ghost use Rattle.std.specs.Prelude.{◌≡◌, ◌+◌, ◌-◌, ◌<◌, ◌≤◌, ◌^◌, ◌++◌, ◌∷◌, [], ℕ, ℤ, pos, neg_ℤ, nat_abs, Bool, true, false, MatchOption, IfOk, OnOk, length, take, slice_index_or};
+ghost use Rattle.std.specs.Prelude.{◌≡◌, ◌+◌, ◌-◌, ◌<◌, ◌≤◌, ◌^◌, ◌++◌, ◌∷◌, [], ℕ, pos, neg_ℤ, nat_abs, true, false, MatchOption, IfOk, OnOk, length, slice_index_or};
 ghost use Rattle.jd_logic.specs.Literals.{IsLiteral, has};
 ghost use Rattle.jd_proving.specs.Propagation.{has_value};
-ghost use Rattle.jd_proving.specs.Proving.{literals_of};
-ghost use Rattle.jd_propagate.specs.Quiet.{IsWithin};
 ghost use Rattle.jd_propagate.specs.declared.reason.Reason.TheVariants as because;
 ghost use Rattle.jd_prover.specs.Solving.{IsConflictLine};
 ghost use Rattle.jd_prover.specs.Searching.{IsNode, IsSearching, IsStart};
@@ -26,11 +24,7 @@ fn is_valued(trail: &Trail, variable: u32) -> bool
     requires small { variable < 2 ^ 31 }
     ensures { result ≡ has_value trail.now (pos variable) }
 {
-    let l = literal_of(variable);
-    if trail.has(l) {
-        return true;
-    }
-    trail.has(-l)
+    trail.has_value(literal_of(variable))
 }
 
 /// The first input above a given one that has no value.
@@ -140,6 +134,7 @@ pub fn turn_back(
     ensures lines { OnOk result (length solver.new.lines.items ≡ length solver.old.lines.items + 1) }
     ensures some { OnOk result (0 < length solver.new.trail) }
 {
+    // For the fact that no literal of the trail stands beside its negation.
     let _literals = solver.trail.literals();
     let last = solver.decisions.len() - 1;
     let l = solver.decisions[last];

@@ -1,5 +1,5 @@
 //! Hints that lead to a conflict.
-ghost use Rattle.std.specs.Prelude.{◌≡◌, ◌+◌, ◌<◌, ◌^◌, ◌≤◌, ℕ, ℤ, pos, neg_ℤ, true, false, IfOk, OnOk, length, ◌++◌, ◌∷◌, [], slice_index, slice_index_or, reverse};
+ghost use Rattle.std.specs.Prelude.{◌≡◌, ◌+◌, ◌<◌, ◌^◌, ℕ, ℤ, pos, neg_ℤ, true, false, IfOk, OnOk, length, ◌++◌, ◌∷◌, [], slice_index, slice_index_or};
 ghost use Rattle.jd_logic.specs.Literals.{IsLiteral, AreLiterals, AreHints};
 ghost use Rattle.jd_propagate.specs.Quiet.{IsIn};
 ghost use Rattle.jd_propagate.specs.Hints.{IsFalseBy, LeadsToConflict};
@@ -9,17 +9,9 @@ ghost use Rattle.jd_propagate.specs.Trails.{key_of, IsTrail};
 ghost use Rattle.jd_prover.specs.Solving.{AreKnown, IsExplained, store_of};
 
 use crate::Solver;
-use jd_propagate::trail::{is_marked, key, make_room};
+use jd_propagate::trail::{is_marked, key, make_room, negation};
 use jd_propagate::{Clauses, NoMemory, Reason};
 use std::alloc::Global;
-
-/// A literal's negation.
-fn negated(l: i32) -> i32
-    requires { IsLiteral l }
-    ensures { result ≡ neg_ℤ l }
-{
-    -l
-}
 
 /// Marks a key.
 fn mark_key(marks: &mut Vec<bool>, key: usize) -> Result<(), NoMemory>
@@ -38,7 +30,7 @@ fn mark(marks: &mut Vec<bool>, l: i32) -> Result<(), NoMemory>
     ensures kept { (k : ℕ) → slice_index_or marks.old.items k false ≡ true → slice_index_or marks.new.items k false ≡ true }
     ensures marked { OnOk result (slice_index_or marks.new.items (key_of (neg_ℤ l)) false ≡ true) }
 {
-    mark_key(marks, key(negated(l)))
+    mark_key(marks, key(negation(l)))
 }
 
 /// Marks the negations of a clause's literals.
@@ -71,7 +63,7 @@ pub fn push_hint(hints: &mut Vec<i64>, id: u64) -> Result<(), NoMemory>
 }
 
 /// The literal at a place of the trail.
-pub fn literal_of(solver: &Solver, at: usize) -> i32
+pub fn literal_at(solver: &Solver, at: usize) -> i32
     requires { at < length solver.now.trail }
     ensures same { result ≡ slice_index_or solver.now.trail at (pos 0) }
     ensures literal { IsLiteral result }
@@ -119,7 +111,7 @@ fn explain_literal(
     requires explained { IsExplained (store_of _clauses.now solver.now.lines.items) solver.now.trail solver.now.decisions.items marks.old.items hints.old.items (at + 1) }
     ensures { OnOk result (IsExplained (store_of _clauses.now solver.now.lines.items) solver.now.trail solver.now.decisions.items marks.new.items hints.new.items at) }
 {
-    if !is_needed(marks.as_slice(), literal_of(solver, at)) {
+    if !is_needed(marks.as_slice(), literal_at(solver, at)) {
         return Ok(());
     }
     match reason_of(solver, at) {

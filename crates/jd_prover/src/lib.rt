@@ -1,15 +1,17 @@
 //! A search for a refutation or a model that decides the inputs in their order.
 //!
-//! The search: `prove`. What every search over the clauses stands on: `Solver`, `setup`, `explain`.
+//! The search: `prove`. What every search over the clauses stands on: `Solver`, `setup::prepare`,
+//! `explain`.
 #![tactic(auto)]
 
 pub mod decide;
 pub mod explain;
-pub mod line;
-pub mod search;
+mod line;
+mod search;
 pub mod setup;
-pub mod solver;
+mod solver;
 
 pub use jd_propagate::Proof;
+pub use line::negations;
 pub use search::prove;
-pub use solver::Solver;
+pub use solver::{BOUND, Solver, make_true};

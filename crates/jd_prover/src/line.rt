@@ -1,6 +1,6 @@
 //! The line that a conflict gives.
-ghost use Rattle.std.specs.Prelude.{◌≡◌, ◌<◌, ◌^◌, ℤ, neg_ℤ, IfOk, length};
-ghost use Rattle.jd_logic.specs.Literals.{IsLiteral, AreLiterals};
+ghost use Rattle.std.specs.Prelude.{◌≡◌, ◌<◌, ◌^◌, IfOk, length};
+ghost use Rattle.jd_logic.specs.Literals.{AreLiterals};
 ghost use Rattle.jd_propagate.specs.Quiet.{IsWithin};
 ghost use Rattle.jd_propagate.specs.Hints.{IsFalseBy};
 ghost use Rattle.jd_propagate.specs.Levels.{negated};
@@ -9,17 +9,9 @@ ghost use Rattle.jd_prover.specs.Solving.{AreKnown, IsConflictLine};
 
 use crate::Solver;
 use crate::explain::explain;
+use jd_propagate::trail::negation;
 use jd_propagate::{Clause, Clauses, Hints, Line, NoMemory};
 use std::alloc::Global;
-
-/// A literal's negation.
-fn negation(l: i32) -> i32
-    requires { IsLiteral l }
-    ensures same { result ≡ neg_ℤ l }
-    ensures literal { IsLiteral result }
-{
-    -l
-}
 
 /// The negated literals of a list.
 pub fn negations(alloc: Global, literals: &[i32]) -> Result<Vec<i32>, NoMemory>

@@ -4,15 +4,13 @@ ghost use Rattle.std.specs.List.{list_any};
 ghost use Rattle.jd_logic.specs.Checking.{is_empty};
 ghost use Rattle.jd_proving.specs.Proving.{AreDecided};
 ghost use Rattle.jd_propagate.specs.Answers.{IsAnswer};
-ghost use Rattle.jd_propagate.specs.Hints.{IsFalseBy};
-ghost use Rattle.jd_propagate.specs.Passing.{clause_of};
 ghost use Rattle.jd_prover.specs.Solving.{IsTaken};
 ghost use Rattle.jd_prover.specs.Searching.{IsStart, IsNode, IsTurned};
 
 use crate::Solver;
 use crate::decide::{decide, next_open, turn_back, values};
 use crate::line::conflict_line;
-use crate::setup::{begin, has_empty, take_all};
+use crate::setup::{Prepared, prepare};
 use jd_propagate::propagate::propagate;
 use jd_propagate::{Bits, Clauses, Log, NoMemory, Proof};
 use std::alloc::Global;
@@ -128,6 +126,7 @@ fn descend(
     requires node { IsNode clauses.now inputs cursor solver.old None }
     ensures { IfOk result (λ turn. IsTurned clauses.now inputs budget solver.new turn) }
 {
+    // For the fact that no literal of the trail stands beside its negation.
     let _literals = solver.trail.literals();
     match next_open(&solver.trail, cursor, inputs) {
         None => Ok(Turned::Model(values(alloc, &solver.trail, inputs)?)),
@@ -196,6 +195,7 @@ fn search(
         cursor: 0,
         conflict,
     };
+    // 2^64 turns never pass: the bound stands in for a measure.
     'nodes: for _ in 0..u64::MAX {
         match turn(alloc, clauses, inputs, budget, node, &mut solver)? {
             Turned::Goes(next) => node = next,
@@ -207,27 +207,6 @@ fn search(
     Err(NoMemory)
 }
 
-/// Ends at a clause that is false before any decision.
-pub fn refute_begun(
-    alloc: Global,
-    clauses: &Clauses,
-    conflict: usize,
-    taken: Solver,
-) -> Result<Proof, NoMemory>
-    requires many { length clauses.now < 2 ^ 31 }
-    requires none_empty { list_any is_empty clauses.now ≡ false }
-    requires in_clauses { conflict < length clauses.now }
-    requires taken { IsTaken clauses.now conflict taken }
-    requires conflict { IsFalseBy taken.trail (clause_of clauses.now conflict) }
-    ensures { IfOk result (λ proof. (inputs budget : ℕ) → 0 < budget → IsAnswer clauses.now inputs budget proof) }
-{
-    let mut solver = taken;
-    let id = clauses.len() as u64 + 1;
-    let line = conflict_line(alloc, clauses, &solver, conflict, id)?;
-    solver.lines.push(line)?;
-    Ok(Proof::Refuted(Log::new(solver.lines)))
-}
-
 /// Searches for a refutation by values of the inputs, or for a model. Where the clauses or the
 /// inputs are 2^31 or more, it answers `NoMemory`.
 pub fn prove(alloc: Global, clauses: &Clauses, inputs: u32, budget: u32) -> Result<Proof, NoMemory>
@@ -236,15 +215,8 @@ pub fn prove(alloc: Global, clauses: &Clauses, inputs: u32, budget: u32) -> Resu
     requires small { budget ≤ 2 ^ 20 }
     ensures { IfOk result (λ proof. IsAnswer clauses.now inputs budget proof) }
 {
-    if clauses.len() >= 0x8000_0000 || inputs >= 0x8000_0000 {
-        return Err(NoMemory);
-    }
-    if has_empty(clauses) {
-        return Ok(Proof::Refuted(Log::new(Vec::new(alloc))));
-    }
-    let mut solver = begin(alloc);
-    match take_all(alloc, clauses, &mut solver)? {
-        Some(conflict) => refute_begun(alloc, clauses, conflict, solver),
-        None => search(alloc, clauses, inputs, budget, solver),
+    match prepare(alloc, clauses, inputs)? {
+        Prepared::Answered(proof) => Ok(proof),
+        Prepared::Ready(solver) => search(alloc, clauses, inputs, budget, solver),
     }
 }

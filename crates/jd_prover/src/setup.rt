@@ -1,23 +1,28 @@
 //! The clauses given, taken one by one.
-ghost use Rattle.std.specs.Prelude.{◌≡◌, ◌+◌, ◌<◌, ◌^◌, ℤ, neg_ℤ, false, IfOk, length, List, slice_index_or, MatchOption};
+ghost use Rattle.std.specs.Prelude.{◌≡◌, ℕ, ◌+◌, ◌<◌, ◌^◌, ℤ, false, IfOk, length, List};
 ghost use Rattle.std.specs.List.{list_any};
-ghost use Rattle.jd_logic.specs.Literals.{IsLiteral, has};
+ghost use Rattle.jd_logic.specs.Literals.{IsLiteral};
 ghost use Rattle.jd_logic.specs.Checking.{is_empty};
+ghost use Rattle.jd_propagate.specs.Answers.{IsAnswer};
+ghost use Rattle.jd_propagate.specs.Hints.{IsFalseBy};
 ghost use Rattle.jd_propagate.specs.Quiet.{IsIn};
 ghost use Rattle.jd_propagate.specs.Passing.{clause_of};
+ghost use Rattle.jd_prover.specs.Preparing.{IsPrepared};
 ghost use Rattle.jd_prover.specs.Solving.{IsTaken, IsTakenBy, AreTaken};
 
-use crate::solver::{Solver, make_true};
+use crate::line::conflict_line;
+use crate::solver::{BOUND, Solver, make_true};
 use jd_propagate::attach::{other_than, watch};
-use jd_propagate::{Clauses, NoMemory, Reason, Trail};
+use jd_propagate::{Clauses, Log, NoMemory, Proof, Reason, Trail};
 use std::alloc::Global;
 
-/// Whether a literal's negation is true.
-fn is_false(trail: &Trail, l: i32) -> bool
-    requires { IsLiteral l }
-    ensures { result ≡ has trail.now (neg_ℤ l) }
-{
-    trail.has(-l)
+/// What is known once the clauses given were taken.
+#[derive(Drop)]
+pub enum Prepared {
+    /// A clause is empty, or false before any decision.
+    Answered(Proof),
+    /// All clauses were taken, and a search may begin.
+    Ready(Solver),
 }
 
 /// The first literal of a clause.
@@ -41,7 +46,7 @@ fn take_unit(clauses: &Clauses, solver: &mut Solver, at: usize, l: i32) -> Resul
     if solver.trail.has(l) {
         return Ok(true);
     }
-    if is_false(&solver.trail, l) {
+    if solver.trail.is_false(l) {
         return Ok(false);
     }
     make_true(
@@ -54,7 +59,7 @@ fn take_unit(clauses: &Clauses, solver: &mut Solver, at: usize, l: i32) -> Resul
 }
 
 /// Takes a clause: watches two of its literals, or makes its only one true. Whether it isn't false.
-pub fn take_clause(
+fn take_clause(
     alloc: Global,
     clauses: &Clauses,
     solver: &mut Solver,
@@ -88,7 +93,7 @@ pub fn take_clause(
 }
 
 /// A search that knows nothing.
-pub fn begin(alloc: Global) -> Solver
+fn begin(alloc: Global) -> Solver
     ensures { (clauses : List (List ℤ)) → IsTaken clauses 0 result }
 {
     Solver {
@@ -113,7 +118,7 @@ fn is_no_clause(clause: &[i32]) -> bool
 }
 
 /// Whether some clause is empty.
-pub fn has_empty(clauses: &Clauses) -> bool
+fn has_empty(clauses: &Clauses) -> bool
     ensures { result ≡ list_any is_empty clauses.now }
 {
     for at in 0..clauses.len() {
@@ -125,7 +130,7 @@ pub fn has_empty(clauses: &Clauses) -> bool
 }
 
 /// Takes all clauses, or finds one that is false.
-pub fn take_all(
+fn take_all(
     alloc: Global,
     clauses: &Clauses,
     solver: &mut Solver,
@@ -141,4 +146,44 @@ pub fn take_all(
         }
     }
     Ok(None)
+}
+
+/// Ends at a clause that is false before any decision.
+fn refute_begun(
+    alloc: Global,
+    clauses: &Clauses,
+    conflict: usize,
+    taken: Solver,
+) -> Result<Proof, NoMemory>
+    requires many { length clauses.now < 2 ^ 31 }
+    requires none_empty { list_any is_empty clauses.now ≡ false }
+    requires in_clauses { conflict < length clauses.now }
+    requires taken { IsTaken clauses.now conflict taken }
+    requires conflict { IsFalseBy taken.trail (clause_of clauses.now conflict) }
+    ensures { IfOk result (λ proof. (inputs budget : ℕ) → 0 < budget → IsAnswer clauses.now inputs budget proof) }
+{
+    let mut solver = taken;
+    let id = clauses.len() as u64 + 1;
+    let line = conflict_line(alloc, clauses, &solver, conflict, id)?;
+    solver.lines.push(line)?;
+    Ok(Proof::Refuted(Log::new(solver.lines)))
+}
+
+/// Takes the clauses given, before a search over so many inputs. Where either are 2^31 or more, it
+/// answers `NoMemory`.
+pub fn prepare(alloc: Global, clauses: &Clauses, inputs: u32) -> Result<Prepared, NoMemory>
+    ensures { IfOk result (λ prepared. IsPrepared clauses.now inputs prepared) }
+{
+    if clauses.len() >= BOUND as usize || inputs >= BOUND {
+        return Err(NoMemory);
+    }
+    if has_empty(clauses) {
+        return Ok(Prepared::Answered(Proof::Refuted(Log::new(Vec::new(alloc)))));
+    }
+    let mut solver = begin(alloc);
+    if let Some(conflict) = take_all(alloc, clauses, &mut solver)? {
+        let proof = refute_begun(alloc, clauses, conflict, solver)?;
+        return Ok(Prepared::Answered(proof));
+    }
+    Ok(Prepared::Ready(solver))
 }

@@ -6,6 +6,9 @@ ghost use Rattle.jd_proving.specs.Propagation.{has_value};
 
 use jd_propagate::{Clauses, Line, NoMemory, Reason, Trail};
 
+/// The variables and the clauses of a search are fewer, so that a variable's literals are `i32`.
+pub const BOUND: u32 = 1 << 31;
+
 /// What a search knows.
 #[derive(Drop)]
 pub struct Solver {

@@ -1,5 +1,5 @@
 //! Both searches on worked examples.
-use crate::answers::{Answer, answer_to};
+use crate::answers::{Answer, answer_to, log_text};
 use crate::searches::Search;
 use anyhow::Result;
 
@@ -26,6 +26,21 @@ fn worked_examples(rt: HostRuntime) -> Result<()> {
         for search in [Search::Plain, Search::Learning] {
             assert_eq!(rt; answer_to(rt.alloc(), search, budget, text)?, want);
         }
+    }
+    Ok(())
+}
+
+/// A spent budget leaves as many lines, and a clause without literals is refuted with none.
+#[test]
+fn texts_of_logs(rt: HostRuntime) -> Result<()> {
+    for search in [Search::Plain, Search::Learning] {
+        let spent = log_text(rt.alloc(), search, 1, EIGHT)?;
+        let lines = spent.as_slice().strip_prefix(b"c unknown\n").unwrap_or(b"");
+        assert_eq!(rt; lines.iter().filter(|b| **b == b'\n').count(), 1);
+        let given = log_text(rt.alloc(), search, 4, b"p cnf 0 1\n0\n")?;
+        assert_eq!(rt; given.as_slice(), b"".as_slice());
+        let model = log_text(rt.alloc(), search, 4, b"p cnf 1 1\n1 0\n")?;
+        assert_eq!(rt; model.as_slice(), b"c model 1\n".as_slice());
     }
     Ok(())
 }

@@ -14,13 +14,13 @@ use Rattle.jd_prover.proofs.explain.explain_literal.Goals as goal
 pub returns-then-not-is_needed : goal.returns-then-not-is_needed
 returns-then-not-is_needed c =
     let s = c.args.solver.now in
-    let l = c.literal_of.result in
+    let l = c.literal_at.result in
     let f : SFits w32 l = search rules in
     let P : List Bool → Type 0 = λ xs. get_or xs (key_of l) false ≡ false in
     let Q : ℤ → Type 0 = λ z. get_or c.as_slice.result.now (key_of z) false ≡ false in
     let e = c.requires.explained in
     record {
-      leads = explained-unmarked (store_of c.args._clauses.now s.lines.items) c.args.marks.now.items s.decisions.items s.trail _ c.args.at l c.requires.in_trail c.literal_of.ensures.same
+      leads = explained-unmarked (store_of c.args._clauses.now s.lines.items) c.args.marks.now.items s.decisions.items s.trail _ c.args.at l c.requires.in_trail c.literal_at.ensures.same
           (subst P c.as_slice.ensures.value (subst Q (to_z-of_z w32 l f) (sym c.is_needed.ensures ∙ c.if-not-is_needed.true))) e.leads;
       hints = e.hints;
     }
@@ -44,7 +44,7 @@ returns-in_ok-push_hint-in-Line c =
     let R : Reason → Type 0 = λ r. IsReason s.long (store_of c.args._clauses.now s.lines.items) s.decisions.items s.decisions.items (take at s.trail) (get_or s.trail at (pos 0)) r in
     let E : List ℤ → Type 0 = λ xs. IsExplained (store_of c.args._clauses.now s.lines.items) s.trail s.decisions.items c.args.marks.now.items xs at in
     subst E (sym c.in_ok-push_hint-in-Line.ensures)
-    (explained-line s.long (store_of c.args._clauses.now s.lines.items) s.decisions.items s.decisions.items s.trail c.args.marks.now.items c.args.hints.now.items at c.in-Line.id c.literal_of.ensures.orderly.no_opposites c.requires.in_trail
+    (explained-line s.long (store_of c.args._clauses.now s.lines.items) s.decisions.items s.decisions.items s.trail c.args.marks.now.items c.args.hints.now.items at c.in-Line.id c.literal_at.ensures.orderly.no_opposites c.requires.in_trail
     (subst R (sym c.in-Line.ensures) (c.requires.known.reasons.each at c.requires.in_trail)) c.requires.explained)
 
 pub returns-in_ok-push_hint-in-Clause : goal.returns-in_ok-push_hint-in-Clause
@@ -60,7 +60,7 @@ returns-in_ok-push_hint-in-Clause c =
     let e = c.in_ok-push_hint-in-Clause.ensures ∙ ap (λ (n : ℕ). c.args.hints.now.items ++ pos n ∷ []) c.id_of.ensures in
     subst E (sym e)
     (explained-clause cs s.long s.origins.items (store_of cs s.lines.items) s.decisions.items s.decisions.items s.decisions.items s.trail c.args.marks.now.items next c.args.hints.now.items at k
-    c.literal_of.ensures.orderly.no_opposites c.requires.in_trail (omega (arith, c.requires.small)) c.requires.known.origins
+    c.literal_at.ensures.orderly.no_opposites c.requires.in_trail (omega (arith, c.requires.small)) c.requires.known.origins
     (λ j lt. stored-more cs (clauses_of s.lines.items) 1 (j + 1) (get_or cs j []) (stored-at cs 1 j (j + 1) (omega arith) lt)) m.kept
     (λ l is. m.marked l (let P : List ℤ → Type 0 = λ xs. IsIn xs l in subst P (sym c.clause.ensures.clause) is))
     (subst R (sym c.in-Clause.ensures) (c.requires.known.reasons.each at c.requires.in_trail)) c.requires.explained)

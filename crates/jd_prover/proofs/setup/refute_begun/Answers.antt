@@ -2,7 +2,7 @@ use Rattle.std.proofs.Common.{arith, sym, subst, refl, ℤ, List, []}
 use Rattle.jd_logic.specs.Literals.{AreLiterals}
 use Rattle.jd_propagate.specs.Quiet.{IsIn}
 use Rattle.jd_propagate.proofs.Members.{false_is_not_true}
-use Rattle.jd_prover.proofs.search.refute_begun.Goals as goal
+use Rattle.jd_prover.proofs.setup.refute_begun.Goals as goal
 
 pub conflict_line-requires-clause-decisions : goal.conflict_line-requires-clause-decisions
 conflict_line-requires-clause-decisions c = λ l is. (let P : List ℤ → Type 0 = λ ds. IsIn ds l in absurd (false_is_not_true _ refl (subst P c.requires.taken.no_decisions is)))
