@@ -34,18 +34,6 @@ fn read_register(nibbles: &NibbleLits, size: WordSize, r: u16) -> Lits
     nibbles.read(first, first + size.bits as usize)
 }
 
-/// A word with zeros above it, as many literals as the nibbles of a register have.
-fn padded(x: &Lits, size: WordSize) -> Lits
-    requires { length x.now ≡ size.bits }
-    ensures length { length result ≡ 4 * width_of size.bits }
-    ensures meaning { (val : ℕ → Bool) → number val result ≡ number val x.now }
-    ensures inside { (n : ℕ) → Inside n x.now → Inside n result }
-{
-    let mut lits = x.copy();
-    lits.append(&Lits::constant(4 * size.nibbles() - size.bits, 0));
-    lits
-}
-
 /// A word is put into a register, with zeros in the bits above it.
 fn write_register(nibbles: &mut NibbleLits, size: WordSize, r: u16, x: &Lits)
     requires length { length x.now ≡ size.bits }
@@ -55,7 +43,7 @@ fn write_register(nibbles: &mut NibbleLits, size: WordSize, r: u16, x: &Lits)
     ensures length { length nibbles.new ≡ length nibbles.old }
     ensures inside { (n : ℕ) → Inside n nibbles.old → Inside n x.now → Inside n nibbles.new }
 {
-    let lits = padded(x, size);
+    let lits = widened(x, 4 * size.nibbles());
     nibbles.write(4 * (size.nibbles() as usize * r as usize), &lits);
 }
 

@@ -37,20 +37,6 @@ pub fn widened(x: &Lits, size: u8) -> Lits
     lits
 }
 
-/// A word modulo 2 to the size.
-fn resized(x: &Lits, size: u8) -> Lits
-    requires { size ≤ 64 }
-    ensures length { length result ≡ size }
-    ensures inside { (n : ℕ) → Inside n x.now → Inside n result }
-    ensures meaning { (val : ℕ → Bool) → number val result ≡ number val x.now % 2 ^ size }
-{
-    if size as usize <= x.len() {
-        cut(x, size)
-    } else {
-        widened(x, size)
-    }
-}
-
 /// The word size becomes what the answers say: the stack drops, and each word is taken modulo 2 to
 /// the size.
 pub fn change_size(content: &mut SymContent, given: &[bool])
@@ -62,10 +48,10 @@ pub fn change_size(content: &mut SymContent, given: &[bool])
     ensures fits { (n w : ℕ) → Fits n w content.old → Fits n (size_given_of given.now) content.new }
     ensures same { content.new.nibbles ≡ content.old.nibbles }
 {
-    let size = size_given(given).bits;
-    content.x = resized(&content.y, size);
-    content.y = resized(&content.z, size);
-    content.z = resized(&content.t, size);
-    content.t = resized(&content.t, size);
-    content.l = resized(&content.l, size);
+    let size = size_given(given).bits as usize;
+    content.x = content.y.resized(size);
+    content.y = content.z.resized(size);
+    content.z = content.t.resized(size);
+    content.t = content.t.resized(size);
+    content.l = content.l.resized(size);
 }

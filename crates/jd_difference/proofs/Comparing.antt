@@ -15,7 +15,6 @@ use Rattle.jd_books.specs.Walks.{seen_as}
 use Rattle.jd_circuit.specs.declared.literals.Lit.{Lit}
 use Rattle.jd_circuit.specs.Meaning.{lit_value}
 use Rattle.jd_vectors.specs.Number.{Inside, bit, number}
-use Rattle.jd_vectors.proofs.Numbers.{number-kept, number-small}
 use Rattle.jd_vectors.proofs.Kept.{Inside-drop, Inside-take}
 use Rattle.jd_content.specs.declared.content.SymContent.{SymContent}
 use Rattle.jd_content.specs.Meaning.{data_on, nibble_on, nibbles_on}
@@ -30,9 +29,6 @@ bit-is false = refl
 -- a literal alone
 pub number-one : (val : ℕ → Bool) (l : Lit) (b : Bool) → lit_value val l ≡ b → number val (l ∷ []) ≡ bit_number b
 number-one val l b e = (let last : bit (lit_value val l) + 2 * 0 ≡ bit (lit_value val l) = omega arith in last) ∙ ap bit e ∙ bit-is b
-
-pub number-of_word : (val : ℕ → Bool) (ls : List Lit) → length ls ≤ 64 → number val ls % 2 ^ 64 ≡ number val ls
-number-of_word val ls h = number-kept (number val ls) (length ls) 64 (number-small val ls) h
 
 at-mapped : (flags : List Bool) (k : ℕ) → slice_index (map bit_number flags) k ≡ bit_number (get_or flags k false)
 at-mapped [] k = refl

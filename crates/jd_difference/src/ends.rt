@@ -1,4 +1,4 @@
-//! The ends of two runs.
+//! Whether two runs are seen the same, by their ends and by the contents there.
 ghost use Rattle.std.specs.Prelude.{◌≡◌, ℕ, ◌+◌, ◌^◌, ◌<◌, ◌≤◌, Bool, not, length, IfOk, OnOk};
 ghost use Rattle.jd_model.specs.Seen.{agree_on};
 ghost use Rattle.jd_problem.specs.Problems.{problem_of};

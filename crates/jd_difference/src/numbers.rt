@@ -12,19 +12,9 @@ ghost use Rattle.jd_content.specs.Meaning.{Fits, data_on};
 ghost use Rattle.jd_difference.specs.Ends.{HasShape};
 
 use jd_circuit::{Circuit, Lit, NoMemory, Rewrite};
-use jd_content::{SymContent, flag};
+use jd_content::{SymContent, flag, widened};
 use jd_start::{CONTENT_NUMBERS, Parts, part_at};
 use jd_vectors::{Lits, same};
-
-/// A word in 64 literals.
-fn word(lits: &Lits) -> Lits
-    requires { length lits.now ≤ 64 }
-    ensures length { length result ≡ 64 }
-    ensures inside { (n : ℕ) → Inside n lits.now → Inside n result }
-    ensures number { (val : ℕ → Bool) → number val result ≡ number val lits.now }
-{
-    lits.resized(64)
-}
 
 /// A flag in 64 literals.
 fn flag_word(content: &SymContent, place: u8) -> Lits
@@ -35,7 +25,7 @@ fn flag_word(content: &SymContent, place: u8) -> Lits
 {
     let mut lits = Lits::new();
     lits.push(flag(content, place));
-    word(&lits)
+    widened(&lits, 64)
 }
 
 /// A number of a content in 64 literals: a word, the index register or a flag.
@@ -47,12 +37,12 @@ fn number_at(content: &SymContent, place: usize) -> Lits
     ensures number { (val : ℕ → Bool) → number val result ≡ slice_index (content_numbers (data_on val content.now)) place }
 {
     match place {
-        0 => word(&content.x),
-        1 => word(&content.y),
-        2 => word(&content.z),
-        3 => word(&content.t),
-        4 => word(&content.l),
-        5 => word(&content.i),
+        0 => widened(&content.x, 64),
+        1 => widened(&content.y, 64),
+        2 => widened(&content.z, 64),
+        3 => widened(&content.t, 64),
+        4 => widened(&content.l, 64),
+        5 => widened(&content.i, 64),
         _ => flag_word(content, place as u8 - 6),
     }
 }

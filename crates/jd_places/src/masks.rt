@@ -1,4 +1,5 @@
-//! Masks, single bits, counts and left justification. The number of places stands in 8 literals.
+//! Masks, single bits, counts and left justification. The number of places stands in at most 8
+//! literals.
 ghost use Rattle.std.specs.Prelude.{◌≡◌, ℕ, ◌+◌, ◌-◌, ◌*◌, ◌^◌, ◌<◌, ◌≤◌, Bool, length, IfOk};
 ghost use Rattle.hp_model.specs.Words.{bit};
 ghost use Rattle.hp_model.specs.WordOperations.{mask_left_pattern, mask_right_pattern, with_bit, without_bit, ones_below, left_shifts};
@@ -36,7 +37,7 @@ fn upper_ones<W: Rewrite>(
     Ok(r)
 }
 
-/// MASKR.
+/// The word whose lowest m bits alone are 1, at most 24 gates a bit: MASKR of the HP-16C.
 pub fn mask_right<W: Rewrite>(
     c: &mut Circuit<'_, W>,
     size: usize,
@@ -58,7 +59,7 @@ pub fn mask_right<W: Rewrite>(
     Ok(not_lits(&upper))
 }
 
-/// MASKL.
+/// The word whose highest m bits alone are 1, at most 24 gates a bit and 40 more: MASKL of the HP-16C.
 #[tactic(auto, using(jd_vectors::proofs::Kept::grows_trans))]
 pub fn mask_left<W: Rewrite>(
     c: &mut Circuit<'_, W>,
@@ -101,7 +102,7 @@ fn one_at<W: Rewrite>(c: &mut Circuit<'_, W>, size: usize, m: &Lits) -> Result<L
     Ok(r)
 }
 
-/// SB.
+/// Y with bit m set, at most 25 gates a bit: SB of the HP-16C.
 #[tactic(auto, using(jd_vectors::proofs::Kept::grows_trans))]
 pub fn set_bit<W: Rewrite>(c: &mut Circuit<'_, W>, y: &Lits, m: &Lits) -> Result<Lits, NoMemory>
     requires some { 1 ≤ length y.now }
@@ -123,7 +124,7 @@ pub fn set_bit<W: Rewrite>(c: &mut Circuit<'_, W>, y: &Lits, m: &Lits) -> Result
     Ok(r)
 }
 
-/// CB.
+/// Y with bit m cleared, at most 25 gates a bit: CB of the HP-16C.
 #[tactic(auto, using(jd_vectors::proofs::Kept::grows_trans))]
 pub fn clear_bit<W: Rewrite>(c: &mut Circuit<'_, W>, y: &Lits, m: &Lits) -> Result<Lits, NoMemory>
     requires some { 1 ≤ length y.now }
@@ -168,7 +169,7 @@ pub fn bit_is_set<W: Rewrite>(c: &mut Circuit<'_, W>, y: &Lits, m: &Lits) -> Res
     Ok(none.opposite())
 }
 
-/// #B, in eight literals.
+/// How many bits of a word are 1, in 8 literals, at most 40 gates a bit: #B of the HP-16C.
 pub fn count_of_ones<W: Rewrite>(c: &mut Circuit<'_, W>, x: &Lits) -> Result<Lits, NoMemory>
     requires of { AreOf c.old x.now }
     requires room { length c.old.gates < 2 ^ 30 - 2 ^ 18 }
@@ -183,7 +184,8 @@ pub fn count_of_ones<W: Rewrite>(c: &mut Circuit<'_, W>, x: &Lits) -> Result<Lit
     Ok(count)
 }
 
-/// LJ: the count in seven literals, and the word.
+/// How many places a word moves up until its highest bit is 1 (none where it is 0), in 7 literals, and
+/// the word so moved, at most 35 gates a bit and 21 more: LJ of the HP-16C.
 pub fn justified<W: Rewrite>(c: &mut Circuit<'_, W>, x: &Lits) -> Result<(Lits, Lits), NoMemory>
     requires some { 1 ≤ length x.now }
     requires of { AreOf c.old x.now }

@@ -27,8 +27,8 @@ pub fn places_of<W: Rewrite>(c: &mut Circuit<'_, W>, mode: Mode, x: &Lits) -> Re
     ensures grows { Grows c.old c.new }
     ensures more { length c.new.gates ≤ length c.old.gates + 8 * length x.now }
 {
-    let (_sign, size) = magnitude(c, mode, x)?;
-    Ok(size.resized(8))
+    let (_sign, magnitude) = magnitude(c, mode, x)?;
+    Ok(magnitude.resized(8))
 }
 
 /// #B as a word.
@@ -45,9 +45,5 @@ pub fn ones_of<W: Rewrite>(c: &mut Circuit<'_, W>, x: &Lits) -> Result<SymAnswer
 {
     let count = count_of_ones(c, x)?;
     let pattern = count.resized(x.len());
-    Ok(SymAnswer {
-        pattern,
-        carry: None,
-        range: None,
-    })
+    Ok(SymAnswer::plain(pattern))
 }

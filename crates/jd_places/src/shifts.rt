@@ -1,4 +1,4 @@
-//! Words moved by one place.
+//! Words moved by one place, which adds no gate; the bit that leaves the word is the carry.
 ghost use Rattle.std.specs.Prelude.{◌≡◌, ℕ, ◌+◌, ◌-◌, ◌*◌, ◌/◌, ◌%◌, ◌^◌, ◌<◌, ◌≤◌, Bool, length};
 ghost use Rattle.hp_model.specs.Words.{bit};
 ghost use Rattle.hp_model.specs.Operations.{left, right, left_carry, right_carry};
@@ -70,7 +70,7 @@ fn lowest(x: &Lits) -> Lit
     x.at(0)
 }
 
-/// SL.
+/// The word moved up one place, with 0 in the lowest: SL of the HP-16C.
 pub fn shifted_left(x: &Lits) -> SymAnswer
     requires { 1 ≤ length x.now }
     ensures meaning { (val : ℕ → Bool)
@@ -80,7 +80,7 @@ pub fn shifted_left(x: &Lits) -> SymAnswer
     up(x, Lit::Const(false))
 }
 
-/// SR.
+/// The word moved down one place, with 0 in the highest: SR of the HP-16C.
 pub fn shifted_right(x: &Lits) -> SymAnswer
     requires { 1 ≤ length x.now }
     ensures meaning { (val : ℕ → Bool)
@@ -104,7 +104,7 @@ fn sign_literal(mode: Mode, x: &Lits) -> Lit
     }
 }
 
-/// ASR.
+/// The word moved down one place, with the sign, 0 in unsigned mode, in the highest: ASR of the HP-16C.
 pub fn shifted_arithmetic(mode: Mode, x: &Lits) -> SymAnswer
     requires { 1 ≤ length x.now }
     ensures meaning { (val : ℕ → Bool)
@@ -114,7 +114,7 @@ pub fn shifted_arithmetic(mode: Mode, x: &Lits) -> SymAnswer
     down(x, sign_literal(mode, x))
 }
 
-/// RL.
+/// The word moved up one place, with its highest bit in the lowest: RL of the HP-16C.
 pub fn rotated_left(x: &Lits) -> SymAnswer
     requires { 1 ≤ length x.now }
     ensures meaning { (c : Bool) (val : ℕ → Bool)
@@ -124,7 +124,7 @@ pub fn rotated_left(x: &Lits) -> SymAnswer
     up(x, highest(x))
 }
 
-/// RR.
+/// The word moved down one place, with its lowest bit in the highest: RR of the HP-16C.
 pub fn rotated_right(x: &Lits) -> SymAnswer
     requires { 1 ≤ length x.now }
     ensures meaning { (c : Bool) (val : ℕ → Bool)
@@ -134,7 +134,7 @@ pub fn rotated_right(x: &Lits) -> SymAnswer
     down(x, lowest(x))
 }
 
-/// RLC.
+/// The word moved up one place, with the carry in the lowest: RLC of the HP-16C.
 pub fn rotated_left_with_carry(x: &Lits, carry: Lit) -> SymAnswer
     requires { 1 ≤ length x.now }
     ensures meaning { (val : ℕ → Bool)
@@ -145,7 +145,7 @@ pub fn rotated_left_with_carry(x: &Lits, carry: Lit) -> SymAnswer
     up(x, carry)
 }
 
-/// RRC.
+/// The word moved down one place, with the carry in the highest: RRC of the HP-16C.
 pub fn rotated_right_with_carry(x: &Lits, carry: Lit) -> SymAnswer
     requires { 1 ≤ length x.now }
     ensures meaning { (val : ℕ → Bool)

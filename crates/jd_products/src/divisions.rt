@@ -125,9 +125,5 @@ pub fn remainder<W: Rewrite>(
     let size = x.len();
     let d = divided(c, mode, y, x)?;
     let pattern = pattern_of(c, mode, d.sign_of_rest, &d.rest, size)?;
-    Ok(SymAnswer {
-        pattern,
-        carry: None,
-        range: None,
-    })
+    Ok(SymAnswer::plain(pattern))
 }

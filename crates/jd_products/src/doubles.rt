@@ -38,8 +38,8 @@ fn product_of_double<W: Rewrite>(
     ensures more { length c.new.gates ≤ length c.old.gates + 12 * length x.now * length x.now
         + 36 * length x.now + 2 }
 {
-    let (sign, size) = signed_product(c, mode, y, x)?;
-    let pattern = pattern_of(c, mode, sign, &size, size.len())?;
+    let (sign, magnitude) = signed_product(c, mode, y, x)?;
+    let pattern = pattern_of(c, mode, sign, &magnitude, magnitude.len())?;
     Ok(pattern)
 }
 
@@ -88,8 +88,8 @@ fn double_word(upper: &Lits, lower: &Lits) -> Lits
     whole
 }
 
-/// The quotient of a double word, where the divisor's value isn't 0 and the quotient fits, and the
-/// literal that it doesn't fit.
+/// The quotient of a double word, where the divisor's value isn't 0. That it fits is asked before
+/// (`quotient_is_too_great`), so out of range is cleared.
 #[tactic(auto, using(jd_vectors::proofs::Kept::grows_trans))]
 pub fn double_divide<W: Rewrite>(
     c: &mut Circuit<'_, W>,
@@ -159,11 +159,7 @@ pub fn double_remainder<W: Rewrite>(
     let y = double_word(upper, lower);
     let d = divided(c, mode, &y, x)?;
     let pattern = pattern_of(c, mode, d.sign_of_rest, &d.rest, size)?;
-    Ok(SymAnswer {
-        pattern,
-        carry: None,
-        range: None,
-    })
+    Ok(SymAnswer::plain(pattern))
 }
 
 /// Whether the quotient of a double word doesn't fit, where the divisor's value isn't 0.

@@ -111,7 +111,7 @@ pub fn product<W: Rewrite>(
     ensures more { length c.new.gates ≤ length c.old.gates + 12 * length x.now * length x.now
         + 52 * length x.now + 2 }
 {
-    let (sign, size) = signed_product(c, mode, y, x)?;
-    let answer = ranged(c, mode, sign, &size, x.len())?;
+    let (sign, magnitude) = signed_product(c, mode, y, x)?;
+    let answer = ranged(c, mode, sign, &magnitude, x.len())?;
     Ok(answer)
 }

@@ -29,8 +29,8 @@ pub fn square_root<W: Rewrite>(
     ensures more { length c.new.gates ≤ length c.old.gates + 8 * length x.now * (length x.now
         + 2) + 10 * length x.now }
 {
-    let (_sign, size) = magnitude(c, mode, x)?;
-    let (pattern, rest) = root_lits(c, &size)?;
+    let (_sign, magnitude) = magnitude(c, mode, x)?;
+    let (pattern, rest) = root_lits(c, &magnitude)?;
     let whole = is_zero(c, &rest)?;
     Ok(SymAnswer {
         pattern,

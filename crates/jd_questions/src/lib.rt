@@ -3,11 +3,11 @@
 #![tactic(auto)]
 
 mod asking;
+mod conditions;
 mod literals;
 mod next;
 mod numbers;
 mod question;
-mod tests;
 
 // The literal of an operation's next question.
 pub use asking::asks;

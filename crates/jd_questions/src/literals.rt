@@ -1,4 +1,4 @@
-//! The literals of questions.
+//! The literal that is the answer to each question.
 ghost use Rattle.std.specs.Prelude.{◌≡◌, ℕ, ◌+◌, ◌-◌, ◌^◌, ◌<◌, ◌≤◌, Bool, IfOk, length, nat_lt};
 ghost use Rattle.hp_model.specs.State.{registers as registers_of};
 ghost use Rattle.hp_model.specs.Words.{bit, magnitude};
@@ -10,8 +10,8 @@ ghost use Rattle.jd_vectors.specs.Number.{AreOf, Inside, number};
 ghost use Rattle.jd_content.specs.Meaning.{Fits, data_on};
 ghost use Rattle.jd_questions.specs.Questions.{IsAsked, asked, count_of, question_gates};
 
+use crate::conditions::{is_negative, test_literal};
 use crate::question::Question;
-use crate::tests::{is_negative, test_literal};
 use hp_control::Control;
 use hp_ops::Loop;
 use hp_words::Mode;
@@ -54,8 +54,8 @@ fn magnitude_is_above_64<W: Rewrite>(
     ensures grows { Grows c.old c.new }
     ensures more { length c.new.gates ≤ length c.old.gates + 2 ^ 12 }
 {
-    let (_, size) = magnitude(c, mode, x)?;
-    let wide = size.resized(64);
+    let (_, magnitude) = magnitude(c, mode, x)?;
+    let wide = magnitude.resized(64);
     let l = is_at_least(c, &wide, 65)?;
     Ok(l)
 }
@@ -77,8 +77,8 @@ fn magnitude_bit<W: Rewrite>(
     ensures grows { Grows c.old c.new }
     ensures more { length c.new.gates ≤ length c.old.gates + 2 ^ 12 }
 {
-    let (_, size) = magnitude(c, mode, x)?;
-    Ok(bit_at(&size, place as usize))
+    let (_, magnitude) = magnitude(c, mode, x)?;
+    Ok(bit_at(&magnitude, place as usize))
 }
 
 /// Whether the bit of Y is set that X says.

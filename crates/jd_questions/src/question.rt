@@ -1,4 +1,4 @@
-//! Questions on the data.
+//! The questions on the data by whose answers control is decided.
 use hp_ops::{Flag, Loop, Test};
 
 /// A question whose answer decides control. The places of bits are counted from the lowest.

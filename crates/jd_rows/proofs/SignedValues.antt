@@ -1,12 +1,12 @@
 -- Signs: values as magnitudes with signs, and their patterns.
-use Rattle.std.proofs.Common.{◌≡◌, ℕ, zero, suc, ◌+◌, ◌-◌, ◌*◌, ◌/◌, ◌%◌, ◌^◌, ◌<◌, ◌≤◌, ◌==◌, ◌&&◌, Bool, true, false, not, nat_lt, nat_le, refl, sym, ap, ◌∙◌, arith}
+use Rattle.std.proofs.Common.{◌≡◌, ℕ, zero, suc, ◌+◌, ◌-◌, ◌*◌, ◌%◌, ◌^◌, ◌<◌, ◌≤◌, ◌==◌, ◌&&◌, Bool, true, false, not, nat_lt, nat_le, refl, sym, ap, ◌∙◌, arith}
 use Rattle.std.specs.Prelude.{ℤ, pos, ◌-ℤ◌, neg_ℤ, nat_abs, if◌then◌else◌}
 use Rattle.std.proofs.lemmas.Bool.Decides.{nat_tests}
-use Rattle.std.proofs.lemmas.Int.{ints, quot-rem}
+use Rattle.std.proofs.lemmas.Int.{ints}
 use Rattle.std.proofs.Math.Nat.{one-le-pow, mod-eq_of_lt, zero-mod, mod_self}
 use Rattle.hp_model.specs.declared.Mode.{Mode}
 use Rattle.hp_model.specs.declared.Mode.TheVariants.{Unsigned, Ones, Twos}
-use Rattle.hp_model.specs.Words.{value, low, fits, magnitude}
+use Rattle.hp_model.specs.Words.{value, low, fits}
 use Rattle.hp_model.specs.WordOperations.{negation_pattern}
 use Rattle.jd_rows.proofs.Range.{double_half, fits_as}
 use Rattle.jd_rows.specs.Answers.{with_sign, above, below, shows_minus}
@@ -20,42 +20,6 @@ whole w _ = 2 ^ w
 abbrev pub is_minus : ℕ → Mode → ℕ → Bool
 is_minus w Unsigned p = false
 is_minus w _ p = nat_le (2 ^ (w - 1)) p
-
-abs_under : (p m : ℕ) → p ≤ m → nat_abs (pos p -ℤ pos m) ≡ m - p
-abs_under p m h = grind (arith, ints)
-
-abs_if : (H p m : ℕ) → p ≤ m → nat_abs (if nat_lt p H then pos p else pos p -ℤ pos m) ≡ (if nat_le H p then m - p else p)
-abs_if H p m h = by (nat_lt p H) (nat_le H p) (grind (arith, nat_tests))
-  where
-    by : (a b : Bool) → b ≡ not a → nat_abs (if a then pos p else pos p -ℤ pos m) ≡ (if b then m - p else p)
-    by true b e = rw e refl
-    by false b e = rw e (abs_under p m h)
-
--- the magnitude: a choice between the pattern and what it lacks of the whole
-pub magnitude_as : (w : ℕ) (mode : Mode) (p : ℕ) → p < 2 ^ w → magnitude w mode p ≡ (if is_minus w mode p then whole w mode - p else p)
-magnitude_as w Unsigned p h = refl
-magnitude_as w Ones p h = abs_if (2 ^ (w - 1)) p (2 ^ w - 1) (omega arith)
-magnitude_as w Twos p h = abs_if (2 ^ (w - 1)) p (2 ^ w) (omega arith)
-
--- a natural number is out of range exactly where it reaches the half, in the signed modes
-pub range_of_magnitude : (w : ℕ) (mode : Mode) (m : ℕ) → 1 ≤ w → m < 2 ^ w → not (fits w mode (pos m)) ≡ is_minus w mode m
-range_of_magnitude w mode m h i = ap (λ z. not (fits w mode z)) same ∙ ap not (fits_as w mode m 0) ∙ by mode
-  where
-    same : pos m ≡ pos m -ℤ pos 0
-    same = omega (arith, ints)
-
-    by : (mode : Mode) → not (nat_le 0 (m + below w mode) && nat_le m (0 + above w mode)) ≡ is_minus w mode m
-    by Unsigned = grind (arith, nat_tests)
-    by Ones = let one = one-le-pow (w - 1) 2 (omega arith) in grind (arith, nat_tests)
-    by Twos = let one = one-le-pow (w - 1) 2 (omega arith) in grind (arith, nat_tests)
-
--- the pattern of a number with a sign: its negative only where it isn't 0, since minus 0 is no number's pattern
-pub low_signed : (w : ℕ) (mode : Mode) (s : Bool) (q : ℕ) → q < 2 ^ w → low w mode (if s then neg_ℤ (pos q) else pos q) ≡ (if s && not (q == 0) then negation_pattern w mode q else q)
-low_signed w mode false q h = mod-eq_of_lt h
-low_signed w mode true zero h = mod-eq_of_lt h
-low_signed w Unsigned true (suc q) h = let z : (suc q == 0) ≡ false = grind (arith, nat_tests) in rw (mod-eq_of_lt h, z) refl
-low_signed w Ones true (suc q) h = let z : (suc q == 0) ≡ false = grind (arith, nat_tests) in rw (mod-eq_of_lt h, z) refl
-low_signed w Twos true (suc q) h = let z : (suc q == 0) ≡ false = grind (arith, nat_tests) in rw (mod-eq_of_lt h, z) refl
 
 -- a value is its magnitude with its sign
 value_if : (H p m : ℕ) → p ≤ m → (if nat_lt p H then pos p else pos p -ℤ pos m) ≡ with_sign (nat_le H p) (if nat_le H p then m - p else p)

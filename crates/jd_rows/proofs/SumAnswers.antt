@@ -1,37 +1,14 @@
 -- Answers of literals are the rows of sums.
-use Rattle.std.proofs.Common.{◌≡◌, ℕ, ◌+◌, ◌-◌, ◌*◌, ◌^◌, ◌<◌, ◌≤◌, Bool, true, false, nat_le, List, length, take, slice_get, Some, refl, sym, ap, ◌∙◌, subst, arith}
-use Rattle.std.proofs.lemmas.Bool.Decides.{nat_tests}
-use Rattle.std.proofs.Math.Seq.{take-length}
+use Rattle.std.proofs.Common.{◌≡◌, ℕ, ◌+◌, ◌-◌, ◌*◌, ◌^◌, ◌<◌, ◌≤◌, Bool, nat_le, List, length, Some, refl, ◌∙◌, arith}
 use Rattle.hp_model.specs.declared.Mode.{Mode}
 use Rattle.hp_model.specs.declared.Mode.TheVariants.{Unsigned, Ones, Twos}
 use Rattle.hp_model.specs.WordOperations.{sum_of}
 use Rattle.jd_circuit.specs.declared.literals.Lit.{Lit}
 use Rattle.jd_circuit.specs.Meaning.{lit_value}
 use Rattle.jd_vectors.specs.Number.{number, bit}
-use Rattle.jd_vectors.proofs.Numbers.{number-small, number-take, number-take_small}
 use Rattle.jd_rows.specs.Answers.{overflows}
+use Rattle.jd_rows.proofs.Tops.{small, at_width}
 use Rattle.jd_rows.proofs.Range.{SumIs, sum_unsigned, sum_twos, sum_ones}
-
--- ---- the top literal
-
-top_test : (P r : ℕ) (b : Bool) → r < P → b ≡ nat_le P (r + P * bit b)
-top_test P r true h = grind (arith, nat_tests)
-top_test P r false h = grind (arith, nat_tests)
-
-pub top_is : (val : ℕ → Bool) (ls : List Lit) (l : Lit) → 1 ≤ length ls → slice_get ls (length ls - 1) ≡ Some l → lit_value val l ≡ nat_le (2 ^ (length ls - 1)) (number val ls)
-top_is val ls l h e =
-    let k = length ls - 1 in
-    let whole : take (k + 1) ls ≡ ls = (let n : k + 1 ≡ length ls = omega arith in ap (λ n. take n ls) n) ∙ take-length ls in
-    let split : number val ls ≡ number val (take k ls) + 2 ^ k * bit (lit_value val l) = ap (number val) (sym whole) ∙ number-take val ls k l e (omega arith) in
-    rw split (top_test (2 ^ k) (number val (take k ls)) (lit_value val l) (number-take_small val ls k (omega arith)))
-
--- ---- sums
-
-pub small : (val : ℕ → Bool) (ls : List Lit) (w : ℕ) → length ls ≡ w → number val ls < 2 ^ w
-small val ls w e = subst (λ k. number val ls < 2 ^ k) e (number-small val ls)
-
-at_width : (b : Bool) (n v w : ℕ) → v ≡ w → b ≡ nat_le (2 ^ (v - 1)) n → b ≡ nat_le (2 ^ (w - 1)) n
-at_width b n v w e h = subst (λ k. b ≡ nat_le (2 ^ (k - 1)) n) e h
 
 sum_answer : (w : ℕ) (mode : Mode) (y x s : ℕ) (k o : Bool) → SumIs w mode y x s k o → record { pattern = s; carry = Some k; range = Some o } ≡ sum_of w mode y x
 sum_answer w mode y x s k o p = rw (p.pattern, p.carry, p.range) refl

@@ -1,4 +1,4 @@
-//! Answers of literals.
+//! What a row of the operation table answers, as literals: a pattern and two flags.
 ghost use Rattle.std.specs.Prelude.{◌≡◌, None};
 
 use jd_circuit::Lit;

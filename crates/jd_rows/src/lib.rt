@@ -21,7 +21,7 @@ pub use constants::{low_ones, power};
 // Arithmetic on one or two words.
 pub use signs::{absolute, negation};
 pub use sums::{difference, sum};
-pub use words::difference as difference_pattern;
+pub use words::difference_pattern;
 
 // Words as magnitudes with signs, and the patterns and ranges of such numbers.
 pub use magnitudes::{magnitude, out_of_range, pattern_of, ranged};

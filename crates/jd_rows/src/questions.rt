@@ -74,8 +74,8 @@ pub fn magnitude_is_above_size<W: Rewrite>(
     ensures grows { Grows c.old c.new }
     ensures more { length c.new.gates ≤ length c.old.gates + 13 * length x.now }
 {
-    let (_sign, size) = magnitude(c, mode, x)?;
-    let l = is_above_size(c, &size)?;
+    let (_sign, magnitude) = magnitude(c, mode, x)?;
+    let l = is_above_size(c, &magnitude)?;
     Ok(l)
 }
 
@@ -97,27 +97,27 @@ pub fn magnitude_is_size_or_more<W: Rewrite>(
     ensures grows { Grows c.old c.new }
     ensures more { length c.new.gates ≤ length c.old.gates + 13 * length x.now }
 {
-    let (_sign, size) = magnitude(c, mode, x)?;
-    let l = is_size_or_more(c, &size)?;
+    let (_sign, magnitude) = magnitude(c, mode, x)?;
+    let l = is_size_or_more(c, &magnitude)?;
     Ok(l)
 }
 
-/// Whether the index register is a count or above it.
+/// Whether a number of 64 literals is a count or above it.
 pub fn is_at_least<W: Rewrite>(
     c: &mut Circuit<'_, W>,
-    index: &Lits,
+    m: &Lits,
     count: u64,
 ) -> Result<Lit, NoMemory>
-    requires index { length index.now ≡ 64 }
-    requires of { AreOf c.old index.now }
+    requires word { length m.now ≡ 64 }
+    requires of { AreOf c.old m.now }
     requires room { length c.old.gates + 320 < 2 ^ 30 }
     ensures of { IfOk result (IsOf c.new) }
     ensures meaning { IfOk result (λ l. (val : ℕ → Bool) → Solves c.new val
-        → lit_value val l ≡ nat_le count (number val index.now)) }
+        → lit_value val l ≡ nat_le count (number val m.now)) }
     ensures grows { Grows c.old c.new }
     ensures more { length c.new.gates ≤ length c.old.gates + 320 }
 {
     let bound = Lits::constant(64, count);
-    let l = less(c, index, &bound)?;
+    let l = less(c, m, &bound)?;
     Ok(l.opposite())
 }

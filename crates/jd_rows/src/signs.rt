@@ -112,7 +112,7 @@ pub fn absolute<W: Rewrite>(
     ensures grows { Grows c.old c.new }
     ensures more { length c.new.gates ≤ length c.old.gates + 26 * length x.now + 1 }
 {
-    let (_sign, size) = magnitude(c, mode, x)?;
-    let answer = ranged(c, mode, Lit::Const(false), &size, x.len())?;
+    let (_sign, magnitude) = magnitude(c, mode, x)?;
+    let answer = ranged(c, mode, Lit::Const(false), &magnitude, x.len())?;
     Ok(answer)
 }

@@ -178,7 +178,7 @@ fn difference_ones<W: Rewrite>(c: &mut Circuit<'_, W>, y: &Lits, x: &Lits) -> Re
 }
 
 /// The difference of two words.
-pub fn difference<W: Rewrite>(
+pub fn difference_pattern<W: Rewrite>(
     c: &mut Circuit<'_, W>,
     mode: Mode,
     y: &Lits,

@@ -1,4 +1,4 @@
 use Rattle.jd_comparisons.proofs.counting.one_less.Goals as goal
 
-pub difference-requires-clause-second : goal.difference-requires-clause-second
-difference-requires-clause-second g c = c.one-one.ensures.inside _
+pub difference_pattern-requires-clause-second : goal.difference_pattern-requires-clause-second
+difference_pattern-requires-clause-second g c = c.one-one.ensures.inside _

@@ -10,7 +10,7 @@ returns-clause-meaning c = λ k val e.
     let d = data_on val c.args.content.now in
     let told = size_told k d c.args.given.now e c.requires.first in
     let size = c.size_given-size.ensures ∙ ap (λ n. if n == 0 then 64 else n) told in
-    rw (c.resized-content.ensures.meaning val, c.resized-content-2.ensures.meaning val, c.resized-content-3.ensures.meaning val, c.resized-content-4.ensures.meaning val, c.resized-content-5.ensures.meaning val)
+    rw (c.resized-content.ensures.number val, c.resized-content-2.ensures.number val, c.resized-content-3.ensures.number val, c.resized-content-4.ensures.number val, c.resized-content-5.ensures.number val)
     (ap (λ w. with_size w (with_x d.y (dropped d))) size)
 
 pub returns-clause-fits : goal.returns-clause-fits

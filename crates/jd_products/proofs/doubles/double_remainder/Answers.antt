@@ -12,4 +12,4 @@ returns-clause-meaning g c = λ val s nonzero.
     let words : number val c.double_word-y.result ≡ number val c.args.upper.now * 2 ^ w + number val c.args.lower.now =
     c.double_word-y.ensures.number val ∙ ap (λ n. number val c.args.upper.now * 2 ^ n + number val c.args.lower.now) c.requires.lower_length in
     let d = double_at _ w _ _ _ _ _ _ _ _ _ double words (c.in_ok-d.ensures.value val s0 nonzero) in
-    double_remainder_row _ _ _ _ _ _ _ _ _ _ _ c.len-size.ensures.len d (c.in_ok-pattern.ensures.number val s)
+    rw c.plain.ensures (double_remainder_row _ _ _ _ _ _ _ _ _ _ _ c.len-size.ensures.len d (c.in_ok-pattern.ensures.number val s))

@@ -10,5 +10,5 @@ pub returns-clause-number : goal.returns-clause-number
 returns-clause-number g c = λ val s.
     let s0 = solves_before _ _ val c.in_ok-pattern.ensures.grows s in
     c.in_ok-pattern.ensures.number val s
-    ∙ ap (λ w. low w c.args.mode (with_sign (lit_value val c.in_ok-sign.sign) (number val c.in_ok-sign.size))) (c.len.ensures.len ∙ c.in_ok-sign.ensures.length)
+    ∙ ap (λ w. low w c.args.mode (with_sign (lit_value val c.in_ok-sign.sign) (number val c.in_ok-sign.magnitude))) (c.len.ensures.len ∙ c.in_ok-sign.ensures.length)
     ∙ ap (λ v. low (2 * length c.args.x.now) c.args.mode v) (sym (c.in_ok-sign.ensures.value val s0))

@@ -15,5 +15,5 @@ pub returns-clause-meaning : goal.returns-clause-meaning
 returns-clause-meaning g c = λ val s.
     let s0 = solves_before _ _ val c.in_ok-answer.ensures.grows s in
     c.in_ok-answer.ensures.meaning val s
-    ∙ ap (λ w. rows.ranged w c.args.mode (with_sign (lit_value val c.in_ok-sign.sign) (number val c.in_ok-sign.size))) c.len.ensures.len
+    ∙ ap (λ w. rows.ranged w c.args.mode (with_sign (lit_value val c.in_ok-sign.sign) (number val c.in_ok-sign.magnitude))) c.len.ensures.len
     ∙ ap (λ v. rows.ranged (length c.args.x.now) c.args.mode v) (sym (c.in_ok-sign.ensures.value val s0))

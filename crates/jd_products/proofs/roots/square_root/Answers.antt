@@ -15,7 +15,7 @@ returns-clause-meaning g c = λ val s.
     let s1 = solves_before _ _ val c.in_ok-whole.ensures.grows s in
     let s0 = solves_before _ _ val c.in_ok-pattern.ensures.grows s1 in
     let carry = ap (lit_value val) c.opposite.ensures ∙ value-opposite val c.in_ok-whole.whole ∙ ap not (c.in_ok-whole.ensures.meaning val s) in
-    let m = c.in_ok-_sign.size in
+    let m = c.in_ok-_sign.magnitude in
     let wide : 2 ^ length c.args.x.now ≤ 2 ^ 64 = pow-le-pow_right {n = 2} (omega arith) c.requires.word in
     let same : 2 ^ length m ≡ 2 ^ length c.args.x.now = ap (λ n. 2 ^ n) c.in_ok-_sign.ensures.length in
     let small : number val m < 2 ^ 64 = omega (arith, number-small val m, same, wide) in

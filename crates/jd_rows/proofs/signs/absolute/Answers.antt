@@ -15,5 +15,5 @@ pub returns-clause-meaning : goal.returns-clause-meaning
 returns-clause-meaning g c = λ val s.
     let s0 = solves_before _ _ val c.in_ok-answer.ensures.grows s in
     c.in_ok-answer.ensures.meaning val s
-    ∙ ap (λ w. rows.ranged w c.args.mode (pos (number val c.in_ok-_sign.size))) c.len.ensures.len
+    ∙ ap (λ w. rows.ranged w c.args.mode (pos (number val c.in_ok-_sign.magnitude))) c.len.ensures.len
     ∙ ap (λ m. rows.ranged (length c.args.x.now) c.args.mode (pos m)) (sym (magnitude_is _ _ _ (c.in_ok-_sign.ensures.value val s0)))

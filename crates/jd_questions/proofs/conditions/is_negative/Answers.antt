@@ -3,7 +3,7 @@ use Rattle.std.specs.Prelude.{int_lt}
 use Rattle.hp_model.specs.Words.{value}
 use Rattle.jd_vectors.specs.Number.{number}
 use Rattle.jd_questions.proofs.SomeLiterals.{value_of_zero}
-use Rattle.jd_questions.proofs.tests.is_negative.Goals as goal
+use Rattle.jd_questions.proofs.conditions.is_negative.Goals as goal
 
 pub returns-clause-meaning : goal.returns-clause-meaning
 returns-clause-meaning g c = λ val s.

@@ -1,4 +1,4 @@
-//! The eight tests of X.
+//! The eight conditions that a program tests of X alone or of X and Y, as literals.
 ghost use Rattle.std.specs.Prelude.{◌≡◌, ℕ, ◌+◌, ◌^◌, ◌<◌, ◌≤◌, Bool, IfOk, int_lt, length, pos};
 ghost use Rattle.hp_model.specs.Words.{value};
 ghost use Rattle.hp_model.specs.Questions.{holds_of_test};

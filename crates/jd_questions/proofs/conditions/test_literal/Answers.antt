@@ -4,7 +4,7 @@ use Rattle.jd_circuit.specs.Meaning.{lit_value}
 use Rattle.jd_circuit.proofs.SimpleGates.{value-opposite}
 use Rattle.jd_vectors.specs.Number.{number}
 use Rattle.jd_questions.proofs.SomeLiterals.{not_below}
-use Rattle.jd_questions.proofs.tests.test_literal.Goals as goal
+use Rattle.jd_questions.proofs.conditions.test_literal.Goals as goal
 
 pub returns-in_ok-below-in-AtMostY-clause-meaning : goal.returns-in_ok-below-in-AtMostY-clause-meaning
 returns-in_ok-below-in-AtMostY-clause-meaning g c = λ val s.
