@@ -1,3 +1,4 @@
+pub mod OperationGates
 pub mod Stepping
 pub mod OnBits
 pub mod Examples

@@ -5,11 +5,14 @@
 //! - to begin: `SymMachine::begin` at a problem's start, `copy`
 //! - one operation: `sym_asks` what it asks next, `sym_step` with the answers
 //! - of a start: `sym_assume`, what its problem assumes
+//! - a law: `operation_gates`, how many gates an operation takes in all
 #![tactic(auto)]
 
 mod beginning;
+mod laws;
 mod lines;
 mod machine;
 mod step;
 
+pub use laws::operation_gates;
 pub use machine::SymMachine;
