@@ -1,7 +1,7 @@
 //! What the events of a certificate tell, kept: whoever wants the whole tree puts the events here.
 ghost use Rattle.std.specs.Prelude.{◌≡◌, OnOk};
 ghost use Rattle.jd_logic.specs.Ranges.{AreLines};
-ghost use Rattle.jd_trees.specs.Trees.{node};
+ghost use Rattle.jd_trees.specs.Trees.{IsNode, node};
 ghost use Rattle.jd_trees.specs.CertTexts.{nothing_told, with_event};
 
 use jd_lrat::{Line, Log, NoMemory};
@@ -27,14 +27,16 @@ impl Model for Kept {
     ghost view = { λ k. record { nodes = k.nodes.items; kind = k.kind; log = k.log.items } };
 }
 
-/// A leaf or a cut.
-fn node(kind: Kind, log: Vec<Line>) -> Node
-    requires { AreLines log.items }
-    ensures { result ≡ node kind log.items }
+/// A leaf or a cut of a certificate. Takes no memory.
+pub fn node(kind: Kind, log: Log) -> Node
+    ensures node { result ≡ node kind log }
+    ensures ranges { IsNode result }
 {
+    // `lines` tells that the numbers of the lines are in their ranges.
+    let _ = log.lines();
     match kind {
-        Kind::Whole => Node::Leaf(Log::new(log)),
-        Kind::Cut => Node::Cut(Log::new(log)),
+        Kind::Whole => Node::Leaf(log),
+        Kind::Cut => Node::Cut(log),
     }
 }
 
@@ -74,7 +76,7 @@ impl Kept {
             }
             CertEvent::Proof(line) => self.log.push(line)?,
             CertEvent::End => {
-                let log = mem::replace(&mut self.log, Vec::new(self.alloc));
+                let log = Log::new(mem::replace(&mut self.log, Vec::new(self.alloc)));
                 self.nodes.push(node(self.kind, log))?;
             }
         }

@@ -20,6 +20,7 @@ pub use certs::Cert;
 pub use faults::CertFault;
 pub use jd_lrat::{Line, Log};
 pub use jd_trees::{CertEvent, Kind, Node};
+pub use kept::node;
 pub use reader::CertReader;
 pub use whole::read_cert;
 pub use writer::write_cert;

@@ -1,8 +1,6 @@
 //! Text that goes to a sink page by page, so that short pieces cost no write each. After a write
 //! that fails nothing more is written, and the end tells it.
-ghost use Rattle.std.specs.Prelude.{◌≡◌, ◌≤◌, ◌∷◌, [], ◌++◌, length, flat_map, false, OnOk, OnErr};
-ghost use Rattle.std.specs.Io.KnownBytes.{Appends};
-ghost use Rattle.hp_io.specs.Causes.{HasCause};
+ghost use Rattle.std.specs.Prelude.{◌≡◌, ◌≤◌, ◌∷◌, [], ◌++◌, length, flat_map, false};
 ghost use Rattle.jd_cert.specs.Pages.{Ends, Gives, blank, stand};
 
 use arrayvec::ArrayString;

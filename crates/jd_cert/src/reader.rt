@@ -1,6 +1,6 @@
 //! The reader of a certificate's lines: the spot, the number of lines, and the first fault, which
 //! it meets for ever.
-ghost use Rattle.std.specs.Prelude.{◌≡◌, ◌+◌, ◌<◌, ◌^◌, suc};
+ghost use Rattle.std.specs.Prelude.{◌≡◌, ◌+◌, ◌<◌, ◌^◌};
 ghost use Rattle.jd_text.specs.Words.{words_of};
 ghost use Rattle.jd_trees.specs.CertLines.{is_whole};
 ghost use Rattle.jd_cert.specs.Readers.{Answers, IsFaultOf, new_reader};
@@ -66,7 +66,8 @@ impl CertReader {
         self.lines
     }
 
-    /// Takes the next line, its line feed left out. After a fault every line meets the same.
+    /// Takes the next line, its line feed left out. After a fault every line meets the same, and none
+    /// is counted.
     pub fn take(&mut self, line: &[u8]) -> Result<CertEvent, CertFault>
         requires { self.old.lines + 1 < 2 ^ 32 }
         ensures { Answers self.old (words_of line.now) result self.new }

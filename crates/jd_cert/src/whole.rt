@@ -1,5 +1,5 @@
 //! The reading of a whole text: the reader of lines over its lines, and what they tell kept.
-ghost use Rattle.std.specs.Prelude.{◌≡◌, ◌+◌, ◌<◌, ◌^◌, length};
+ghost use Rattle.std.specs.Prelude.{◌+◌, ◌<◌, ◌^◌, length};
 ghost use Rattle.jd_trees.specs.CertTexts.{certificate_of};
 ghost use Rattle.jd_cert.specs.Certs.{IsRead};
 

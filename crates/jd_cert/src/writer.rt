@@ -1,6 +1,6 @@
 //! The canonical text of a certificate, written node by node. It takes no memory, and what is
 //! written reads back.
-ghost use Rattle.std.specs.Prelude.{◌≡◌, ℕ, ◌∷◌, [], take, map, flat_map, codes, Ok, OnOk};
+ghost use Rattle.std.specs.Prelude.{◌≡◌, ℕ, take, flat_map, Ok, OnOk};
 ghost use Rattle.std.specs.Io.KnownBytes.{Appends};
 ghost use Rattle.hp_io.specs.Causes.{HasCause};
 ghost use Rattle.jd_text.specs.Words.{line, written};

@@ -76,10 +76,8 @@ fn mark_literals(marks: &mut [bool], literals: &[Lit])
 fn unmarked(alloc: Global, count: usize) -> Result<Vec<bool>, NoMemory>
     ensures { IfOk result (λ marks. length marks.items ≡ count) }
 {
-    match vec![in alloc; false; count] {
-        Ok(marks) => Ok(marks),
-        Err(_) => Err(NoMemory),
-    }
+    let marks = vec![in alloc; false; count]?;
+    Ok(marks)
 }
 
 /// Marks the variables that the guards and the difference of a leaf stand on.

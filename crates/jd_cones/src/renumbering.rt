@@ -50,21 +50,9 @@ pub(crate) fn renamed_literals(
 {
     let mut list = Vec::new(alloc);
     for l in literals {
-        if list.push(renamed(numbers, *l)).is_err() {
-            return Err(NoMemory);
-        }
+        list.push(renamed(numbers, *l))?;
     }
     Ok(list)
-}
-
-/// Adds a number.
-fn push_number(numbers: &mut Vec<u32>, number: u32) -> Result<(), NoMemory>
-    ensures { OnOk result (numbers.new.items ≡ numbers.old.items ++ number ∷ []) }
-{
-    match numbers.push(number) {
-        Ok(()) => Ok(()),
-        Err(_) => Err(NoMemory),
-    }
 }
 
 /// The numbers of the inputs, which stay.
@@ -73,7 +61,7 @@ fn input_numbers(alloc: Global, inputs: u32) -> Result<Vec<u32>, NoMemory>
 {
     let mut numbers = Vec::new(alloc);
     for before in 0..inputs {
-        push_number(&mut numbers, before + 1)?;
+        numbers.push(before + 1)?;
     }
     Ok(numbers)
 }
@@ -87,13 +75,13 @@ impl Renumbering {
         ensures gates { OnOk result (self.new.gates.items ≡ gates_after self.old.numbers.items self.old.gates.items gate is_needed) }
     {
         if !is_needed {
-            return push_number(&mut self.numbers, 0);
+            self.numbers.push(0)?;
+            return Ok(());
         }
         let kept = renamed_gate(self.numbers.as_slice(), gate);
-        if self.gates.push(kept).is_err() {
-            return Err(NoMemory);
-        }
-        push_number(&mut self.numbers, inputs + self.gates.len() as u32)
+        self.gates.push(kept)?;
+        self.numbers.push(inputs + self.gates.len() as u32)?;
+        Ok(())
     }
 }
 
