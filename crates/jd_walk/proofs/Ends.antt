@@ -1,26 +1,25 @@
 -- Where runs begin and end.
-use Rattle.std.proofs.Common.{◌≡◌, ℕ, ◌+◌, ◌*◌, ◌≤◌, Bool, true, false, not, List, [], length, Option, Some, None, refl, sym, ap, ◌∙◌, subst, arith}
+use Rattle.std.proofs.Common.{◌≡◌, ℕ, ◌*◌, Bool, true, false, not, List, [], length, Option, Some, None, sym, ap, ◌∙◌, subst}
 use Rattle.hp_model.specs.declared.End.{End}
-use Rattle.hp_model.specs.State.{Control, Data}
 use Rattle.jd_circuit.specs.declared.literals.Lit.{Lit}
 use Rattle.jd_circuit.specs.Meaning.{lit_value}
-use Rattle.jd_circuit.specs.Net.{Net, IsLit, IsWired, Grows, Solves, variables, eval}
-use Rattle.jd_model.specs.Problems.{Problem, bits, in_range, nibble_count}
+use Rattle.jd_circuit.specs.Net.{Net, IsLit, IsWired, Grows, Solves, variables}
+use Rattle.jd_model.specs.Problems.{Problem, bits, nibble_count}
 use Rattle.jd_model.specs.Seen.{first_control, agree_on}
-use Rattle.jd_books.specs.Walks.{Comes, IsOnWay, IsOver, routine_of, seen_as}
+use Rattle.jd_books.specs.Walks.{IsOnWay, IsOver, routine_of, seen_as}
 use Rattle.jd_books.proofs.Walking.{first-begun, second-begun, both-over}
 use Rattle.jd_content.specs.declared.content.SymContent.{SymContent}
-use Rattle.jd_content.specs.Meaning.{data_on, Fits}
+use Rattle.jd_content.specs.Meaning.{data_on}
 use Rattle.jd_content.proofs.Contents.{fits_grow}
 use Rattle.jd_symbolic.specs.declared.machine.SymMachine.{SymMachine}
-use Rattle.jd_symbolic.specs.Machine.{val_of, Stands, state_of}
+use Rattle.jd_symbolic.specs.Machine.{val_of, Stands}
 use Rattle.jd_difference.specs.Ends.{IsOfRun}
 use Rattle.jd_walk.specs.declared.runs.Position.{Position}
 use Rattle.jd_walk.specs.declared.places.RunEnd.{RunEnd}
-use Rattle.jd_walk.specs.NextLine.{StandsAtLine, nibbles_of}
+use Rattle.jd_walk.specs.NextLine.{nibbles_of}
 use Rattle.jd_walk.specs.Spots.{IsFor, IsAt, IsBegun, IsDoneHere, IsFirst, IsPlaced, IsRun, data_at}
 use Rattle.jd_walk.proofs.Answering.{placed-at_line}
-use Rattle.jd_walk.proofs.Turning.{at-grown, at-line, data-grown, for-grown, solves-start}
+use Rattle.jd_walk.proofs.Turning.{at-line, data-grown, solves-start}
 
 -- ---- a machine over more gates
 

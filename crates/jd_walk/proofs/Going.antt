@@ -1,20 +1,20 @@
 -- What a walk keeps, by an answer and by going back.
-use Rattle.std.proofs.Common.{◌≡◌, ℕ, zero, suc, ◌+◌, ◌-◌, ◌<◌, ◌≤◌, Bool, true, false, not, append-nil, List, [], ◌∷◌, ◌++◌, length, map, take, get_or, Option, Some, None, refl, sym, ap, ◌∙◌, subst, arith, length-append, nat_le, cond}
-use Rattle.std.specs.Prelude.{All, AllPairs, is_some}
+use Rattle.std.proofs.Common.{◌≡◌, ℕ, zero, suc, ◌+◌, ◌-◌, ◌<◌, ◌≤◌, Bool, true, false, append-nil, List, [], ◌∷◌, ◌++◌, length, map, take, get_or, Option, Some, None, refl, sym, ap, ◌∙◌, subst, arith, length-append, nat_le, cond}
+use Rattle.std.specs.Prelude.{All, AllPairs}
 use Rattle.std.proofs.lemmas.Bool.Decides.{nat_tests}
-use Rattle.std.proofs.lemmas.List.{take-append-le, take-take, get_or_append_left, length-take-le}
+use Rattle.std.proofs.lemmas.List.{take-append-le, take-take, get_or_append_left, length-take-le, map-append}
 use Rattle.std.proofs.lemmas.List.Elements.{All-push, All-head, All-tail}
 use Rattle.std.proofs.Math.Seq.{take-length, take-append_seam, get_or-append_seam}
 use Rattle.jd_circuit.specs.declared.literals.Lit.{Lit}
-use Rattle.jd_circuit.specs.Net.{Net, Grows}
+use Rattle.jd_circuit.specs.Net.{Net}
 use Rattle.jd_model.specs.Problems.{Problem}
 use Rattle.jd_books.specs.Paths.{next_path}
 use Rattle.jd_walk.specs.declared.runs.Position.{Position}
 use Rattle.jd_walk.specs.declared.places.Next.{Next}
-use Rattle.jd_walk.specs.declared.places.Next.TheVariants.{Ask as AskNext, Done as DoneNext}
+use Rattle.jd_walk.specs.declared.places.Next.TheVariants.{Ask as AskNext}
 use Rattle.jd_walk.specs.declared.places.FirstEnd.{FirstEnd}
 use Rattle.jd_walk.specs.declared.places.Saved.{Saved}
-use Rattle.jd_walk.specs.Spots.{IsSpot, IsRun, IsAskHere, NextHolds, first_at, end_of, back_to, IsWithin, net_at, IsSaved, IsWalk, noes, noes_from}
+use Rattle.jd_walk.specs.Spots.{IsSpot, IsRun, IsAskHere, first_at, end_of, back_to, IsWithin, net_at, IsSaved, IsWalk, noes, noes_from}
 use Rattle.jd_walk.specs.Walked.{Walked, back_from}
 use Rattle.jd_walk.proofs.Noes.{noes-none, noes-yes, noes-no, last-no, IsLastNo}
 use Rattle.std.proofs.lemmas.List.Quantifiers.{all_pairs_push}
@@ -117,10 +117,6 @@ All-front P xs ys all k d inside = subst P (get_or_append_left xs ys d k inside)
 All-last : {X : Type 0} (P : X → Type 0) (xs : List X) (x : X) → All P (xs ++ x ∷ []) → P x
 All-last P xs x all = subst P (get_or-append_seam xs x [] x) (all (length xs) x (omega (arith, length-append xs (x ∷ []))))
 
-map-push : {X Y : Type 0} (f : X → Y) (xs : List X) (x : X) → map f (xs ++ x ∷ []) ≡ map f xs ++ f x ∷ []
-map-push f [] x = refl
-map-push {X} {Y} f (y ∷ xs) x = ap {B = List Y} (λ r. f y ∷ r) (map-push f xs x)
-
 All-map-back : {X Y : Type 0} (P : Y → Type 0) (f : X → Y) (xs : List X) → All P (map f xs) → All (λ x. P (f x)) xs
 All-map-back P f [] all k d inside = absurd (omega (arith, inside))
 All-map-back P f (x ∷ xs) all zero d inside = All-head P (f x) (map f xs) all
@@ -152,7 +148,7 @@ pub walk-back : (p : Problem) (net : Net) (path : List Bool) (assumed guards : L
     → IsWalk p (net_at net s.mark.gates) (take s.at path ++ true ∷ []) assumed (take s.at guards ++ s.ask ∷ []) saved (back_to s.at first) s.position None
 walk-back p net path assumed guards saved s first at next h =
     let last : IsSaved p net path assumed guards first s = All-last (IsSaved p net path assumed guards first) saved s h.kept in
-    let no : IsLastNo 0 path (map (λ s. s.at) saved) s.at = last-no 0 path (map (λ s. s.at) saved) s.at (sym h.at_noes ∙ map-push (λ s. s.at) saved s) in
+    let no : IsLastNo 0 path (map (λ s. s.at) saved) s.at = last-no 0 path (map (λ s. s.at) saved) s.at (sym h.at_noes ∙ map-append (λ s. s.at) saved (s ∷ [])) in
     let front : s.at - 0 ≡ s.at = omega arith in
     let noes_is : noes (take s.at path) ≡ map (λ s. s.at) saved = ap (λ k. noes (take k path)) (sym front) ∙ no.noes in
     let before : All (λ x. x.at < s.at) saved =
@@ -176,7 +172,7 @@ walk-back p net path assumed guards saved s first at next h =
 pub last-next : (p : Problem) (net : Net) (path : List Bool) (assumed guards : List Lit) (saved : List Saved) (s : Saved) (first : Option FirstEnd) (at : Position) (next : Option Next)
     → IsWalk p net path assumed guards (saved ++ s ∷ []) first at next → next_path path ≡ Some (take s.at path ++ true ∷ [])
 last-next p net path assumed guards saved s first at next h =
-    let no : IsLastNo 0 path (map (λ s. s.at) saved) s.at = last-no 0 path (map (λ s. s.at) saved) s.at (sym h.at_noes ∙ map-push (λ s. s.at) saved s) in
+    let no : IsLastNo 0 path (map (λ s. s.at) saved) s.at = last-no 0 path (map (λ s. s.at) saved) s.at (sym h.at_noes ∙ map-append (λ s. s.at) saved (s ∷ [])) in
     let front : s.at - 0 ≡ s.at = omega arith in
     no.next ∙ ap (λ k. Some (take k path ++ true ∷ [])) front
 
@@ -236,7 +232,7 @@ walk-no p net path assumed guards saved first at l h =
       kept = All-push (IsSaved p net (path ++ false ∷ []) assumed (guards ++ opposite l ∷ []) first) saved new
           (All-mapped (IsSaved p net path assumed guards first) (IsSaved p net (path ++ false ∷ []) assumed (guards ++ opposite l ∷ []) first) saved (λ s is. saved-pushed p net path assumed guards first false (opposite l) s h.spot.count is) h.kept)
           (saved-now p net path assumed guards first at l (opposite l) h.spot.count h.within h.spot (h.run refl) h.said);
-      at_noes = map-push (λ s. s.at) saved new ∙ ap (λ r. r ++ length path ∷ []) h.at_noes ∙ (let e : length path ≡ 0 + length path = omega arith in ap (λ k. noes path ++ k ∷ []) e) ∙ sym (noes-no 0 path);
+      at_noes = map-append (λ s. s.at) saved (new ∷ []) ∙ ap (λ r. r ++ length path ∷ []) h.at_noes ∙ (let e : length path ≡ 0 + length path = omega arith in ap (λ k. noes path ++ k ∷ []) e) ∙ sym (noes-no 0 path);
       marks = all_pairs_push (λ (a : Saved) (b : Saved). a.mark.gates ≤ b.mark.gates) saved new h.marks (λ k d inside. (h.kept k d inside).mark);
     }
 

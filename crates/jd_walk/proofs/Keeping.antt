@@ -1,21 +1,14 @@
 -- Questions that were answered with no, as the walk goes on and back.
-use Rattle.std.proofs.Common.{◌≡◌, ℕ, zero, suc, ◌+◌, ◌-◌, ◌<◌, ◌≤◌, Bool, true, false, not, List, [], ◌∷◌, ◌++◌, length, map, take, Option, Some, None, refl, sym, ap, ◌∙◌, subst, arith, length-append, nat_le, cond}
-use Rattle.std.specs.Prelude.{All, is_some}
+use Rattle.std.proofs.Common.{◌≡◌, ℕ, ◌+◌, ◌-◌, ◌<◌, ◌≤◌, Bool, true, false, List, [], ◌∷◌, ◌++◌, length, take, Option, Some, None, refl, sym, ap, ◌∙◌, subst, arith, length-append, nat_le, cond}
 use Rattle.std.proofs.lemmas.Bool.Decides.{nat_tests}
-use Rattle.std.proofs.lemmas.List.{take-append-le, take-take, get_or_append_left, get_or-append-add}
-use Rattle.std.proofs.Math.Seq.{take-length}
+use Rattle.std.proofs.lemmas.List.{take-append-le, take-take}
 use Rattle.jd_circuit.specs.declared.literals.Lit.{Lit}
 use Rattle.jd_circuit.specs.Net.{Net, Grows}
 use Rattle.jd_model.specs.Problems.{Problem}
-use Rattle.jd_books.specs.Paths.{next_path}
 use Rattle.jd_walk.specs.declared.places.RunEnd.{RunEnd}
-use Rattle.jd_walk.specs.declared.runs.Position.{Position}
-use Rattle.jd_walk.specs.declared.places.Next.{Next}
 use Rattle.jd_walk.specs.declared.places.FirstEnd.{FirstEnd}
 use Rattle.jd_walk.specs.declared.places.Saved.{Saved}
-use Rattle.jd_walk.specs.Spots.{IsSpot, IsRun, IsAskHere, NextHolds, first_at, net_at, IsSaved, IsWalk, noes, noes_from}
-use Rattle.jd_walk.proofs.Noes.{noes-yes, noes-no, last-no, IsLastNo}
-use Rattle.jd_walk.proofs.Standing.{spot-answered}
+use Rattle.jd_walk.specs.Spots.{IsSpot, IsRun, IsAskHere, first_at, net_at, IsSaved}
 
 -- the same place on a path, with its guards, circuit and first end said otherwise
 pub same-spot : (p : Problem) (m n : Net) (xs ys : List Bool) (assumed gs hs : List Lit) (f g : Option RunEnd) (s : Saved) → m ≡ n → xs ≡ ys → gs ≡ hs → f ≡ g

@@ -1,5 +1,5 @@
 -- The leaf of a walk's path is faithful.
-use Rattle.std.proofs.Common.{◌≡◌, ◌≤◌, Bool, true, false, List, ◌++◌, Option, Some, None, refl, sym, ap, ◌∙◌, subst, arith}
+use Rattle.std.proofs.Common.{◌≡◌, Bool, true, List, ◌++◌, Option, Some, None, refl, sym, ap, ◌∙◌, subst, arith}
 use Rattle.std.proofs.lemmas.Bool.{false≢true}
 use Rattle.jd_circuit.specs.declared.literals.Lit.{Lit}
 use Rattle.jd_circuit.specs.declared.literals.Lit.TheVariants.{Const}
@@ -13,9 +13,9 @@ use Rattle.jd_walk.specs.declared.places.FirstEnd.{FirstEnd}
 use Rattle.jd_walk.specs.declared.places.Next.{Next}
 use Rattle.jd_walk.specs.declared.places.Next.TheVariants.{Ask, Done}
 use Rattle.jd_walk.specs.declared.places.Saved.{Saved}
-use Rattle.jd_walk.specs.Spots.{IsSpot, IsDoneHere, NextHolds, IsWalk}
+use Rattle.jd_walk.specs.Spots.{IsSpot, NextHolds, IsWalk}
 use Rattle.jd_walk.specs.Walked.{is_done}
-use Rattle.jd_walk.specs.Taken.{diff_at}
+use Rattle.jd_walk.specs.Leaves.{diff_at}
 use Rattle.jd_walk.proofs.Standing.{leaf-here}
 
 true-inside : (net : Net) → IsLit (variables net) (Const true)

@@ -2,17 +2,16 @@
 use Rattle.std.proofs.Common.{◌≡◌, ℕ, ◌+◌, ◌≤◌, min, Bool, true, List, [], ◌∷◌, length, Option, Some, None, refl, sym, ap, ◌∙◌, subst, arith}
 use Rattle.std.specs.Prelude.{All}
 use Rattle.std.proofs.lemmas.List.Elements.{All-head, All-tail}
-use Rattle.hp_model.specs.declared.End.{End}
 use Rattle.hp_model.specs.declared.End.TheVariants.{Return, Halt, Error}
 use Rattle.hp_model.specs.declared.Stop.{Stop}
 use Rattle.hp_model.specs.declared.Stop.TheVariants.{Go, Ended}
 use Rattle.hp_model.specs.Operations.{Operation}
 use Rattle.hp_model.specs.Operations as ops
-use Rattle.hp_model.specs.State.{Control, Data, register_nibbles}
-use Rattle.hp_model.specs.Questions.{IsComplete, answers, are_complete, next_question}
+use Rattle.hp_model.specs.State.{Control, register_nibbles}
+use Rattle.hp_model.specs.Questions.{IsComplete, answers, are_complete}
 use Rattle.hp_model.specs.ControlStep.{control_step}
 use Rattle.hp_model.specs.DataStep.{data_step}
-use Rattle.hp_model.specs.Run.{advanced, at_line_number, control_done, next_operation, restored}
+use Rattle.hp_model.specs.Run.{advanced, at_line_number, next_operation, restored}
 use Rattle.hp_model.specs.Laws.{are_lines, Stands as StandsAt}
 use Rattle.hp_model.proofs.GoesOn.{control_step-goes}
 use Rattle.hp_model.proofs.Kept.{KeepsProgram, control_step-keeps}

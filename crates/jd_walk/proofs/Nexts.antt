@@ -1,10 +1,10 @@
 -- What comes next on a path.
-use Rattle.std.proofs.Common.{◌≡◌, ◌⊎◌, inl, inr, ℕ, zero, suc, ◌≤◌, Bool, true, false, List, [], ◌∷◌, ◌++◌, length, map, Option, Some, None, refl, sym, ap, ◌∙◌, subst, arith}
-use Rattle.std.specs.Prelude.{All, is_some, ◌&&◌}
+use Rattle.std.proofs.Common.{◌≡◌, inl, inr, ℕ, zero, suc, Bool, true, false, List, [], ◌∷◌, ◌++◌, length, map, Option, Some, None, refl, sym, ap, ◌∙◌, subst, arith}
+use Rattle.std.specs.Prelude.{All, ◌&&◌}
 use Rattle.std.specs.List.{list_all}
 use Rattle.std.proofs.lemmas.Bool.{false≢true}
+use Rattle.std.proofs.lemmas.List.Elements.{All-nil}
 use Rattle.std.proofs.Common.{append-nil}
-use Rattle.hp_model.specs.declared.End.{End}
 use Rattle.hp_model.specs.State.{Data}
 use Rattle.jd_circuit.specs.declared.literals.Lit.{Lit}
 use Rattle.jd_circuit.specs.Meaning.{lit_value}
@@ -13,9 +13,8 @@ use Rattle.jd_model.specs.Problems.{in_range, allows}
 use Rattle.jd_model.specs.Assumptions.{holds, meets}
 use Rattle.jd_books.specs.Leaves.{all_hold}
 use Rattle.jd_books.specs.Paths.{begins, answers_of_start}
-use Rattle.jd_model.specs.Problems.{Problem, bits, free_bits}
-use Rattle.jd_model.specs.Seen.{first_control}
-use Rattle.jd_books.specs.Walks.{Comes, IsOver}
+use Rattle.jd_model.specs.Problems.{Problem, bits}
+use Rattle.jd_books.specs.Walks.{Comes}
 use Rattle.jd_text.proofs.Tests.{right-part}
 use Rattle.jd_vectors.specs.Number.{Inside}
 use Rattle.jd_content.specs.Meaning.{data_on}
@@ -27,7 +26,7 @@ use Rattle.jd_walk.specs.declared.places.Next.{Next}
 use Rattle.jd_walk.specs.declared.places.Next.TheVariants.{Ask, Done}
 use Rattle.jd_walk.specs.declared.places.Saved.{Saved}
 use Rattle.jd_walk.specs.Spots.{IsFor, IsBegun, data_at, IsSpot, IsRun, IsWithin, NextHolds, FirstGoes, IsSaved, IsWalk, end_of}
-use Rattle.jd_walk.specs.Walked.{Walked, NextIs, is_done}
+use Rattle.jd_walk.specs.Walked.{NextIs, is_done}
 use Rattle.jd_walk.proofs.Standing.{spot-grown}
 use Rattle.jd_walk.proofs.Turning.{for-grown, solves-start}
 use Rattle.jd_walk.proofs.Keeping.{saved-grown, saved-over}
@@ -77,12 +76,9 @@ next-is p net path assumed guards at next spent (Done l) spot h = record {
 
 -- ---- where a walk begins
 
-none-all : {X : Type 0} (P : X → Type 0) → All P []
-none-all P k d inside = absurd (omega (arith, inside))
-
 -- literals of a circuit, one by one
 All-inside : (n : ℕ) (ls : List Lit) → Inside n ls → All (IsLit n) ls
-All-inside n [] h = none-all (IsLit n)
+All-inside n [] h = All-nil (IsLit n)
 All-inside n (l ∷ ls) h = cons (All-inside n ls (record { from_one = omega (arith, h.from_one); to_last = omega (arith, h.to_last) }))
   where
     cons : All (IsLit n) ls → All (IsLit n) (l ∷ ls)
@@ -139,7 +135,7 @@ walk-begun p old net m path assumed guards saved at n grows wired begun inside m
       run = λ going. first-run p net m same;
       said = tt;
       within = tt;
-      kept = none-all (IsSaved p net [] assumed [] None);
+      kept = All-nil (IsSaved p net [] assumed [] None);
       at_noes = refl;
       marks = λ i j d below within. absurd (omega (arith, within));
     }))))

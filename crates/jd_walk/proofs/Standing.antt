@@ -1,31 +1,24 @@
 -- Where a walk stands: more gates, an answer more, the second run, and the leaf there.
-use Rattle.std.proofs.Common.{◌≡◌, ℕ, zero, suc, ◌+◌, ◌<◌, ◌≤◌, ◌&&◌, Bool, true, false, not, List, [], ◌∷◌, ◌++◌, length, take, drop, Option, Some, None, refl, sym, ap, ◌∙◌, subst, arith, length-append, append_assoc}
+use Rattle.std.proofs.Common.{◌≡◌, ℕ, ◌+◌, ◌<◌, ◌≤◌, ◌&&◌, Bool, true, false, List, [], ◌∷◌, ◌++◌, length, take, drop, Option, Some, None, refl, sym, ap, ◌∙◌, subst, arith, length-append, append_assoc}
 use Rattle.std.specs.Prelude.{All, is_some}
-use Rattle.std.specs.List.{list_all}
-use Rattle.std.proofs.lemmas.Bool.{false≢true}
 use Rattle.std.proofs.lemmas.List.{take-append-le}
 use Rattle.std.proofs.lemmas.List.Elements.{All-head, All-tail, All-push}
 use Rattle.std.proofs.lemmas.List.Folds.{list_all-append}
-use Rattle.hp_model.specs.declared.End.{End}
-use Rattle.hp_model.specs.State.{Control, Data}
+use Rattle.hp_model.specs.State.{Data}
 use Rattle.hp_model.specs.Questions.{Question, next_question}
-use Rattle.hp_model.specs.Run.{next_operation}
 use Rattle.jd_circuit.specs.declared.literals.Lit.{Lit}
 use Rattle.jd_circuit.specs.declared.literals.Lit.TheVariants.{Const, Var, Not}
-use Rattle.jd_circuit.specs.declared.literals.Gate.{Gate}
-use Rattle.jd_circuit.specs.Meaning.{lit_value, opposite}
 use Rattle.jd_circuit.specs.Net.{Net, IsLit, IsWired, Grows, variables, eval}
 use Rattle.jd_circuit.proofs.Values.{grows_keeps}
 use Rattle.jd_circuit.proofs.SimpleGates.{value-opposite}
-use Rattle.jd_model.specs.Problems.{Problem, free_bits, bits}
-use Rattle.jd_model.specs.Seen.{agree, seen}
+use Rattle.jd_model.specs.Problems.{Problem, bits}
 use Rattle.jd_text.proofs.Tests.{right-part}
 use Rattle.jd_model.specs.Problems.{in_range, allows}
 use Rattle.jd_trees.specs.declared.Kind.{Kind}
 use Rattle.jd_trees.specs.declared.Kind.TheVariants.{Whole, Cut}
 use Rattle.jd_books.specs.Paths.{line_questions, taken, reached, begins, answers_of_start}
 use Rattle.jd_books.specs.Walks.{Comes, IsOnWay}
-use Rattle.jd_books.specs.Leaves.{Leaf, all_hold, IsFaithful}
+use Rattle.jd_books.specs.Leaves.{all_hold, IsFaithful}
 use Rattle.jd_books.proofs.Fronts.{begins-longer, begins-shorter}
 use Rattle.jd_books.proofs.Walking.{walked-further, answered}
 use Rattle.jd_books.proofs.Asking.{taken-whole}
@@ -33,7 +26,7 @@ use Rattle.jd_books.proofs.SoundTree.{length-bits}
 use Rattle.jd_symbolic.specs.Machine.{val_of, state_of}
 use Rattle.jd_walk.specs.declared.places.RunEnd.{RunEnd}
 use Rattle.jd_walk.specs.declared.runs.Position.{Position}
-use Rattle.jd_walk.specs.Spots.{IsFor, data_at, IsReady, IsAt, IsAsk, IsFirst, FirstHolds, IsSpot, IsRun, IsAskHere, IsDoneHere}
+use Rattle.jd_walk.specs.Spots.{IsFor, data_at, IsReady, IsAt, IsAsk, FirstHolds, IsSpot, IsRun, IsAskHere, IsDoneHere}
 use Rattle.jd_walk.specs.Walked.{guard_of}
 use Rattle.jd_walk.proofs.Answering.{drop-push, placed-answered}
 use Rattle.jd_walk.proofs.Turning.{for-grown}

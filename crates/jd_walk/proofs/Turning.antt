@@ -1,22 +1,22 @@
 -- A turn of a run: a question, a line done, or the end.
-use Rattle.std.proofs.Common.{◌≡◌, ℕ, zero, suc, ◌+◌, ◌-◌, ◌<◌, ◌≤◌, Bool, true, false, not, List, [], ◌∷◌, ◌++◌, length, take, drop, Option, Some, None, refl, sym, ap, ◌∙◌, subst, arith, length-drop}
+use Rattle.std.proofs.Common.{◌≡◌, ℕ, suc, ◌+◌, ◌-◌, ◌<◌, Bool, true, false, not, List, [], ◌++◌, length, take, drop, Option, Some, None, refl, sym, ap, ◌∙◌, subst, arith, length-drop}
 use Rattle.std.specs.Bool.{beq}
 use Rattle.std.proofs.Math.Seq.{take-length}
 use Rattle.hp_model.specs.declared.End.{End}
 use Rattle.hp_model.specs.declared.Stop.{Stop}
 use Rattle.hp_model.specs.declared.Stop.TheVariants.{Go, Ended}
-use Rattle.hp_model.specs.State.{Control, Data}
-use Rattle.hp_model.specs.Questions.{Question, next_question, holds}
-use Rattle.hp_model.specs.Run.{next_operation, advanced, control_done, line_answers}
+use Rattle.hp_model.specs.State.{Data}
+use Rattle.hp_model.specs.Questions.{Question, holds}
+use Rattle.hp_model.specs.Run.{advanced, line_answers}
 use Rattle.jd_circuit.specs.declared.literals.Lit.{Lit}
 use Rattle.jd_circuit.specs.Meaning.{lit_value}
 use Rattle.jd_circuit.specs.Net.{Net, IsLit, IsWired, Grows, Solves, variables, eval}
-use Rattle.jd_circuit.proofs.Values.{bits_solve, grows_keeps, grows_trans}
+use Rattle.jd_circuit.proofs.Values.{bits_solve, grows_trans}
 use Rattle.jd_model.specs.Problems.{Problem, free_bits, bits}
 use Rattle.jd_model.specs.Problems.{in_range}
-use Rattle.jd_books.specs.Paths.{line_questions, begins, answers_of_start}
+use Rattle.jd_books.specs.Paths.{line_questions, begins}
 use Rattle.jd_books.specs.Walks.{machine_of, answers_after, OpenQuestion, IsTaken, Comes, IsOnWay, IsOver, data_done}
-use Rattle.jd_books.proofs.Asking.{taken-nothing, taken-whole}
+use Rattle.jd_books.proofs.Asking.{taken-nothing}
 use Rattle.jd_books.proofs.Walking.{way-same, asks-here, later, front-own, own-is, answer-means, line-goes, line-ends, late-here}
 use Rattle.jd_books.proofs.SoundTree.{length-bits}
 use Rattle.jd_content.specs.declared.content.SymContent.{SymContent}
@@ -27,8 +27,7 @@ use Rattle.jd_symbolic.proofs.OnBits.{data_kept}
 use Rattle.jd_walk.specs.NextLine.{IsLineAsk, LineAsks, LineSteps}
 use Rattle.jd_walk.proofs.Answering.{drop-length}
 use Rattle.jd_walk.specs.declared.runs.Position.{Position}
-use Rattle.jd_walk.specs.declared.runs.Reach.{Reach}
-use Rattle.jd_walk.specs.declared.runs.Reach.TheVariants.{Ask, Over}
+use Rattle.jd_walk.specs.declared.runs.Reach.TheVariants.{Ask}
 use Rattle.jd_walk.specs.Spots.{IsFor, data_at, IsReady, IsAt, IsAsk, IsReached}
 
 -- ---- more gates

@@ -1,4 +1,4 @@
 pub mod NextLine
 pub mod Spots
 pub mod Walked
-pub mod Taken
+pub mod Leaves

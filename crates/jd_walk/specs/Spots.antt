@@ -1,11 +1,8 @@
 -- Where a walk stands.
 use Rattle.std.specs.Prelude.{◌≡◌, ◌⊎◌, ◌&&◌, ℕ, ◌<◌, ◌≤◌, suc, not, nat_le, if◌then◌else◌, Bool, true, false, List, [], ◌∷◌, ◌++◌, length, map, take, drop, is_some, Option, Some, None, All, AllPairs}
-use Rattle.hp_model.specs.declared.End.{End}
 use Rattle.hp_model.specs.State.{Control, Data}
 use Rattle.hp_model.specs.Questions.{Question, next_question}
-use Rattle.hp_model.specs.Run.{next_operation}
 use Rattle.jd_circuit.specs.declared.literals.Lit.{Lit}
-use Rattle.jd_circuit.specs.declared.literals.Gate.{Gate}
 use Rattle.jd_circuit.specs.Net.{Net, IsLit, Grows, variables, eval}
 use Rattle.jd_model.specs.Problems.{Problem, free_bits, bits, nibble_count}
 use Rattle.jd_model.specs.Seen.{agree, first_control, seen}

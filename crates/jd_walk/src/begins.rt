@@ -1,18 +1,10 @@
-//! Where the runs begin, and what comes next on a path.
-ghost use Rattle.std.specs.Prelude.{◌≡◌, Bool, false, true, Some, length, IfOk, OnOk};
-ghost use Rattle.hp_model.specs.State.{Data};
-ghost use Rattle.jd_model.specs.Problems.{in_range, nibble_count};
-ghost use Rattle.jd_model.specs.Seen.{first_control};
-ghost use Rattle.jd_books.specs.Walks.{routine_of};
-ghost use Rattle.jd_circuit.specs.Net.{Grows};
-ghost use Rattle.jd_symbolic.specs.Machine.{state_of};
+//! Where the runs begin.
+ghost use Rattle.std.specs.Prelude.{◌≡◌, true, IfOk, OnOk};
 ghost use Rattle.jd_problem.specs.Problems.{problem_of};
-ghost use Rattle.jd_walk.specs.NextLine.{StandsAtLine, nibbles_of};
-ghost use Rattle.jd_walk.specs.Walked.{is_done};
-ghost use Rattle.jd_walk.specs.Spots.{IsFor, IsRun, NextHolds, FirstGoes, IsBegun, data_at, end_of};
+ghost use Rattle.jd_walk.specs.Spots.{IsFor, IsBegun};
 
-use crate::places::{FirstEnd, Next, RunEnd};
-use crate::runs::{Position, Reach, go_on, second_next};
+use crate::places::{FirstEnd, RunEnd};
+use crate::runs::Position;
 use hp_model::End;
 use jd_circuit::{Circuit, NoMemory, Rewrite};
 use jd_problem::Problem;
@@ -31,13 +23,14 @@ pub fn begun<W: Rewrite>(
     ensures same { c.new ≡ c.old }
     ensures begun { IfOk result (IsBegun (problem_of problem.now) second c.new) }
 {
+    // The blocks say that the problem is in its ranges.
     let _ = problem.blocks();
     let machine = SymMachine::begin(alloc, c, problem, second)?;
     Ok(machine)
 }
 
 /// Begins the second run where the first has ended, after a path of this length.
-fn second_begins<W: Rewrite>(
+pub fn second_begins<W: Rewrite>(
     alloc: Global,
     c: &mut Circuit<'_, W>,
     problem: &Problem,
@@ -63,39 +56,4 @@ fn second_begins<W: Rewrite>(
             content: machine.content,
         },
     })
-}
-
-/// What comes next where the first run stands, or where it has ended and the second stands.
-pub fn find_next<W: Rewrite>(
-    alloc: Global,
-    c: &mut Circuit<'_, W>,
-    problem: &Problem,
-    path: &[bool],
-    first: &mut Option<FirstEnd>,
-    at: &mut Position,
-) -> Result<Next, NoMemory>
-    requires inputs { IsFor (problem_of problem.now) c.old }
-    requires run { IsRun (problem_of problem.now) c.old path.now (end_of first.old) at.old }
-    ensures grows { OnOk result (Grows c.old c.new) }
-    ensures first { OnOk result (FirstGoes (length path.now) first.old first.new) }
-    ensures run { IfOk result (λ n. is_done (Some n) ≡ false → IsRun (problem_of problem.now) c.new path.now (end_of first.new) at.new) }
-    ensures said { IfOk result (λ n. NextHolds (problem_of problem.now) c.new path.now at.new (Some n)) }
-{
-    let before = mem::replace(first, None);
-    match before {
-        Some(ended) => {
-            let next = second_next(c, problem, path, &ended.run, at)?;
-            *first = Some(ended);
-            Ok(next)
-        }
-        None => match go_on(c, path, at)? {
-            Reach::Ask(l) => Ok(Next::Ask(l)),
-            Reach::Over(end) => {
-                let ended = second_begins(alloc, c, problem, path.len(), end, at)?;
-                let next = second_next(c, problem, path, &ended.run, at)?;
-                *first = Some(ended);
-                Ok(next)
-            }
-        },
-    }
 }

@@ -2,7 +2,7 @@
 ghost use Rattle.std.specs.Prelude.{◌≡◌, ◌≤◌, ◌^◌, ◌++◌, false, true, length, IfOk};
 ghost use Rattle.jd_trees.specs.declared.Kind.TheVariants.{Whole};
 ghost use Rattle.jd_leaves.specs.Views.{leaf_of};
-ghost use Rattle.jd_walk.specs.Taken.{diff_at, IsWholeLeafOf, IsLeafOf};
+ghost use Rattle.jd_walk.specs.Leaves.{diff_at, IsWholeLeafOf, IsLeafOf};
 ghost use Rattle.jd_walk.specs.Walked.{is_done};
 
 use crate::places::Next;
@@ -30,14 +30,9 @@ fn diff_of(next: Option<Next>, kind: Kind) -> Lit
 fn joined_guards(alloc: Global, assumed: &[Lit], guards: &[Lit]) -> Result<Guards, NoMemory>
     ensures { IfOk result (λ joined. joined ≡ assumed.now ++ guards.now) }
 {
-    let mut joined = match Vec::from_slice(alloc, assumed) {
-        Ok(joined) => joined,
-        Err(_) => return Err(NoMemory),
-    };
-    match joined.extend_from_slice(guards) {
-        Ok(()) => Ok(Guards::new(joined)),
-        Err(_) => Err(NoMemory),
-    }
+    let mut joined = Vec::from_slice(alloc, assumed)?;
+    joined.extend_from_slice(guards)?;
+    Ok(Guards::new(joined))
 }
 
 /// Gates, where they are few enough to be numbered in a leaf.
@@ -70,7 +65,7 @@ impl<'r, W: Rewrite> Walk<'r, W> {
 
     /// The leaf of the walk's path, with the gates alone that its guards and its difference stand
     /// on. A cut has the difference true; a whole leaf has the literal that the last `next` said,
-    /// which was Done.
+    /// which was Done. More than 2^30 gates in the circuit are answered by NoMemory.
     pub fn leaf(&self, kind: Kind) -> Result<Leaf, NoMemory>
         requires unspent { self.now.spent ≡ false }
         requires whole { kind ≡ Whole → is_done self.now.next ≡ true }

@@ -1,8 +1,8 @@
 //! Walks through the runs of two routines, answer by answer, and the leaves where they end.
 #![tactic(auto)]
 
+mod answers;
 mod begins;
-mod calls;
 mod leaves;
 mod lines;
 mod places;

@@ -64,6 +64,7 @@ pub fn line_asks<W: Rewrite>(
     machine.control.line = following(machine);
     let asked = machine.sym_asks(c, op, given);
     machine.control.line = line;
+    // `mark` tells that the circuit is wired.
     let _ = c.mark();
     asked
 }
@@ -87,6 +88,7 @@ pub fn line_step<W: Rewrite>(
     machine.control.line = following(machine);
     let stop = machine.sym_step(op, c, given)?;
     restore(machine, line, stop);
+    // `mark` tells that the circuit is wired.
     let _ = c.mark();
     Ok(stop)
 }

@@ -1,19 +1,22 @@
-//! A run along a path, to the next question or to its end.
-ghost use Rattle.std.specs.Prelude.{◌≡◌, ℕ, ◌^◌, ◌<◌, Bool, false, length, IfOk, OnOk, IsTrue, ◌↔◌, None, Some};
+//! A run along a path, to the next question or to its end, and what comes next in both runs.
+ghost use Rattle.std.specs.Prelude.{◌≡◌, ◌^◌, ◌<◌, Bool, false, length, IfOk, OnOk, IsTrue, ◌↔◌, None, Some};
 ghost use Rattle.jd_model.specs.Problems.{Problem as ProblemOf};
 ghost use Rattle.jd_circuit.specs.Net.{Grows};
 ghost use Rattle.jd_problem.specs.Problems.{problem_of};
 ghost use Rattle.jd_walk.specs.NextLine.{nibbles_of};
-ghost use Rattle.jd_walk.specs.Spots.{IsFor, IsAt, IsPlaced, IsReached, IsRun, IsTurned, NextHolds, StandsAfter};
+ghost use Rattle.jd_walk.specs.Spots.{IsFor, IsAt, IsPlaced, IsReached, IsRun, IsTurned, NextHolds, StandsAfter, FirstGoes, end_of};
 ghost use Rattle.jd_walk.specs.Walked.{is_done};
 
+use crate::begins::second_begins;
 use crate::lines::{line_asks, line_step};
-use crate::places::{Next, RunEnd};
+use crate::places::{FirstEnd, Next, RunEnd};
 use hp_model::{End, Stop};
 use jd_circuit::{Circuit, Lit, NoMemory, Rewrite};
 use jd_difference::difference;
 use jd_problem::Problem;
 use jd_symbolic::SymMachine;
+use std::alloc::Global;
+use std::mem;
 
 /// Where a run stands: its machine, how many lines are left, and where on the path the answers to
 /// the next line begin.
@@ -124,5 +127,40 @@ pub fn second_next<W: Rewrite>(
             )?;
             Ok(Next::Done(l))
         }
+    }
+}
+
+/// What comes next where the first run stands, or where it has ended and the second stands.
+pub fn find_next<W: Rewrite>(
+    alloc: Global,
+    c: &mut Circuit<'_, W>,
+    problem: &Problem,
+    path: &[bool],
+    first: &mut Option<FirstEnd>,
+    at: &mut Position,
+) -> Result<Next, NoMemory>
+    requires inputs { IsFor (problem_of problem.now) c.old }
+    requires run { IsRun (problem_of problem.now) c.old path.now (end_of first.old) at.old }
+    ensures grows { OnOk result (Grows c.old c.new) }
+    ensures first { OnOk result (FirstGoes (length path.now) first.old first.new) }
+    ensures run { IfOk result (λ n. is_done (Some n) ≡ false → IsRun (problem_of problem.now) c.new path.now (end_of first.new) at.new) }
+    ensures said { IfOk result (λ n. NextHolds (problem_of problem.now) c.new path.now at.new (Some n)) }
+{
+    let before = mem::replace(first, None);
+    match before {
+        Some(ended) => {
+            let next = second_next(c, problem, path, &ended.run, at)?;
+            *first = Some(ended);
+            Ok(next)
+        }
+        None => match go_on(c, path, at)? {
+            Reach::Ask(l) => Ok(Next::Ask(l)),
+            Reach::Over(end) => {
+                let ended = second_begins(alloc, c, problem, path.len(), end, at)?;
+                let next = second_next(c, problem, path, &ended.run, at)?;
+                *first = Some(ended);
+                Ok(next)
+            }
+        },
     }
 }

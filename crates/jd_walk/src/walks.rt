@@ -1,8 +1,14 @@
-//! Walks.
+//! Walks: what a walk keeps and what contracts see of it, the making of a new one, and its path. Its
+//! other calls stand in modules of their own, the questions in `answers` and the leaf in `leaves`.
+ghost use Rattle.std.specs.Prelude.{◌≡◌, [], false, None, IfOk};
+ghost use Rattle.jd_problem.specs.Problems.{problem_of};
+
+use crate::begins::begun;
 use crate::places::{FirstEnd, Next, Saved};
 use crate::runs::Position;
-use jd_circuit::{Circuit, Lit};
+use jd_circuit::{Circuit, Lit, NoMemory, Rewrite};
 use jd_problem::Problem;
+use jd_vectors::Lits;
 use std::alloc::Global;
 use std::marker::Model;
 
@@ -43,4 +49,58 @@ impl<'r, W> Model for Walk<'r, W> {
 
     ghost invariant = { λ w. w.spent ≡ false → IsWalk (problem_of w.problem) w.circuit w.path.items
         w.assumed.items w.guards.items w.saved.items w.first w.at w.next };
+}
+
+/// Literals in memory of their own.
+fn listed(alloc: Global, lits: &Lits) -> Result<Vec<Lit>, NoMemory>
+    ensures { IfOk result (λ list. list.items ≡ lits.now) }
+{
+    let mut list = Vec::new(alloc);
+    for i in 0..lits.len() {
+        list.push(lits.at(i))?;
+    }
+    Ok(list)
+}
+
+impl<'r, W: Rewrite> Walk<'r, W> {
+    /// A walk at the empty path, where the first run begins.
+    pub fn new(alloc: Global, problem: &Problem, rules: &'r W) -> Result<Walk<'r, W>, NoMemory>
+        ensures problem { IfOk result (λ w. w.problem ≡ problem_of problem.now) }
+        ensures path { IfOk result (λ w. w.path ≡ []) }
+        ensures next { IfOk result (λ w. w.next ≡ None) }
+        ensures unspent { IfOk result (λ w. w.spent ≡ false) }
+    {
+        let problem = problem.copy();
+        let mut circuit = Circuit::new(alloc, rules, problem.free_bits())?;
+        let machine = begun(alloc, &mut circuit, &problem, false)?;
+        let literals = machine.sym_assume(&mut circuit, &problem)?;
+        let assumed = listed(alloc, &literals)?;
+        let left = problem.steps;
+        // `mark` tells that the circuit is wired, which the invariant needs.
+        let _ = circuit.mark();
+        Ok(Walk {
+            alloc,
+            problem,
+            circuit,
+            path: Vec::new(alloc),
+            assumed,
+            guards: Vec::new(alloc),
+            saved: Vec::new(alloc),
+            first: None,
+            at: Position {
+                machine,
+                left,
+                from: 0,
+            },
+            next: None,
+            spent: false,
+        })
+    }
+
+    /// The answers so far.
+    pub fn path(&self) -> &[bool]
+        ensures { result.now ≡ self.now.path }
+    {
+        self.path.as_slice()
+    }
 }

@@ -1,4 +1,4 @@
-use Rattle.std.proofs.Common.{Some, ◌∙◌, subst}
+use Rattle.std.proofs.Common.{◌∙◌, subst}
 use Rattle.jd_circuit.proofs.Values.{grows_trans}
 use Rattle.jd_walk.specs.Spots.{IsTurned, StandsAfter}
 use Rattle.jd_walk.proofs.Turning.{for-grown}

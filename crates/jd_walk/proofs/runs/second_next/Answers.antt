@@ -1,6 +1,5 @@
 use Rattle.std.proofs.Common.{Some, true, ◌∙◌, subst}
 use Rattle.jd_problem.specs.Problems.{problem_of}
-use Rattle.jd_circuit.proofs.Values.{grows_trans}
 use Rattle.jd_walk.specs.Spots.{IsReached, StandsAfter}
 use Rattle.jd_walk.proofs.Turning.{for-grown}
 use Rattle.jd_walk.proofs.Ends.{done-here, first-grown, of-run, of-run-grown, over-grown}

@@ -1,9 +1,9 @@
-use Rattle.std.proofs.Common.{sym, subst}
+use Rattle.std.proofs.Common.{subst, arith}
 use Rattle.jd_books.specs.Leaves.{Leaf}
 use Rattle.jd_cones.specs.Cones.{IsConeOf}
 use Rattle.jd_cones.proofs.Faithful.{faithful-cone}
 use Rattle.jd_leaves.specs.Views.{leaf_of}
-use Rattle.jd_walk.specs.Taken.{leaf_at}
+use Rattle.jd_walk.specs.Leaves.{leaf_at}
 use Rattle.jd_walk.proofs.walks.Walk.leaf.Goals as goal
 
 pub returns : goal.returns
@@ -17,5 +17,6 @@ returns g c =
       path = cone.path;
       kind_is = cone.kind;
       cone = cone;
+      few = omega (arith, k.fewer, w.few);
       faithful = faithful-cone c.args.self.now.problem whole l w.faithful k (record { gates = c.in_ok-leaf.leaf.wired; literals = c.in_ok-leaf.leaf.literals });
     }

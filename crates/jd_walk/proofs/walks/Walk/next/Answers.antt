@@ -1,6 +1,6 @@
-use Rattle.std.proofs.Common.{◌≡◌, ◌++◌, false, None, Some, ap, sym, ◌∙◌, subst, length, List, Bool}
+use Rattle.std.proofs.Common.{false, Some, subst, length}
 use Rattle.jd_problem.specs.Problems.{problem_of}
-use Rattle.jd_walk.specs.Walked.{Walked, NextIs, is_done}
+use Rattle.jd_walk.specs.Walked.{NextIs}
 use Rattle.jd_walk.specs.Spots.{IsWalk, IsRun, FirstGoes, NextHolds, end_of}
 use Rattle.jd_walk.proofs.Standing.{spot-grown}
 use Rattle.jd_walk.proofs.Nexts.{walk-next, next-is}

@@ -18,8 +18,8 @@ invariant_of-self-2 g c = λ e.
     c.in_ok-save.ensures
     ∙ ap (λ (p : List Bool). i.saved.items ++ now c.mark.result (length p) ∷ []) c.as_slice.ensures.value
     ∙ ap (λ n. i.saved.items ++ now (record { gates = n }) (length i.path.items) ∷ []) c.mark.ensures.gates in
-    subst (λ x. IsWalk (problem_of i.problem) i.circuit x i.assumed.items c.add_guard.new.guards.items c.save.new.saved.items i.first i.at None) (sym c.in_ok-add_answer.ensures)
-    (subst (λ x. IsWalk (problem_of i.problem) i.circuit (i.path.items ++ false ∷ []) i.assumed.items x c.save.new.saved.items i.first i.at None) (sym (c.in_ok-add_guard.ensures ∙ ap (λ l. i.guards.items ++ l ∷ []) c.opposite.ensures))
+    subst (λ x. IsWalk (problem_of i.problem) i.circuit x i.assumed.items c.push.new.self.items c.save.new.saved.items i.first i.at None) (sym c.in_ok-push-2.ensures.items)
+    (subst (λ x. IsWalk (problem_of i.problem) i.circuit (i.path.items ++ false ∷ []) i.assumed.items x c.save.new.saved.items i.first i.at None) (sym (c.in_ok-push.ensures.items ∙ ap (λ l. i.guards.items ++ l ∷ []) c.opposite.ensures))
     (subst (λ x. IsWalk (problem_of i.problem) i.circuit (i.path.items ++ false ∷ []) i.assumed.items (i.guards.items ++ opposite c.args.ask ∷ []) x i.first i.at None) (sym saved)
     (walk-no (problem_of i.problem) i.circuit i.path.items i.assumed.items i.guards.items i.saved.items i.first i.at c.args.ask
     (subst (λ n. IsWalk (problem_of i.problem) i.circuit i.path.items i.assumed.items i.guards.items i.saved.items i.first i.at n) asked w))))

@@ -1,7 +1,7 @@
-use Rattle.std.proofs.Common.{◌≡◌, ◌++◌, length, arith, ap, sym, ◌∙◌, subst, refl}
+use Rattle.std.proofs.Common.{◌≡◌, ◌++◌, arith, ap, sym, ◌∙◌, subst, refl}
 use Rattle.jd_problem.specs.Problems.{problem_of}
 use Rattle.jd_books.specs.Leaves.{Leaf, IsFaithful}
-use Rattle.jd_walk.specs.Taken.{diff_at, leaf_at}
+use Rattle.jd_walk.specs.Leaves.{diff_at, leaf_at}
 use Rattle.jd_walk.specs.Walked.{Walked, is_done}
 use Rattle.jd_walk.proofs.Leaving.{leaf-faithful, same-leaf}
 use Rattle.jd_walk.proofs.walks.Walk.whole_leaf.Goals as goal
@@ -43,6 +43,7 @@ returns g c =
           (guards ∙ ap (λ (v : Walked). v.guards) same)
           (c.diff_of.ensures ∙ ap (λ (v : Walked). diff_at v.next c.args.kind) same)
           refl;
+      few = c.in_ok-limited.ensures.bound;
       faithful = subst (λ p. IsFaithful p l) (ap (λ (v : Walked). v.problem) same)
           (leaf-faithful (problem_of i.problem) i.circuit i.path.items i.assumed.items i.guards.items i.saved.items i.first i.at i.next c.args.kind l c.in_ok-gates.ensures.wired w
           (λ e. ap (λ (v : Walked). is_done v.next) same ∙ c.requires.whole e)

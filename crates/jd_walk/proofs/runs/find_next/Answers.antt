@@ -1,10 +1,10 @@
-use Rattle.std.proofs.Common.{◌≡◌, false, true, Some, None, refl, sym, ap, ◌∙◌, subst}
+use Rattle.std.proofs.Common.{◌≡◌, false, true, Some, None, sym, ap, ◌∙◌, subst}
 use Rattle.jd_problem.specs.Problems.{problem_of}
 use Rattle.jd_walk.specs.declared.places.FirstEnd.{FirstEnd}
 use Rattle.jd_walk.specs.Spots.{IsBegun, IsFor, IsReached, IsRun, StandsAfter, end_of}
 use Rattle.jd_walk.proofs.Turning.{for-grown}
 use Rattle.jd_walk.proofs.Ends.{of-run, second-run}
-use Rattle.jd_walk.proofs.begins.find_next.Goals as goal
+use Rattle.jd_walk.proofs.runs.find_next.Goals as goal
 
 -- the run stands as it did, where the first end has been taken out
 pub second_next-requires-clause-run : goal.second_next-requires-clause-run

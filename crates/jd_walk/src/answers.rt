@@ -1,20 +1,16 @@
-//! The calls of a walk.
-ghost use Rattle.std.specs.Prelude.{◌≡◌, ◌<◌, ◌∷◌, ◌++◌, [], false, true, None, Some, Ok, Err, OnOk, OnErr, IfOk, length, take, is_some};
+//! Questions of a walk: the next one, its answer, and the way back to an answer of no.
+ghost use Rattle.std.specs.Prelude.{◌≡◌, ◌<◌, ◌∷◌, ◌++◌, [], false, true, Some, Ok, OnOk, OnErr, IfOk, length, take, is_some};
 ghost use Rattle.jd_circuit.specs.Net.{Grows};
 ghost use Rattle.jd_books.specs.Paths.{next_path};
-ghost use Rattle.jd_problem.specs.Problems.{problem_of};
 ghost use Rattle.jd_walk.specs.Spots.{back_to};
-ghost use Rattle.jd_walk.specs.Walked.{NextIs, answered, back_from, guard_of, has_asked};
+ghost use Rattle.jd_walk.specs.Walked.{NextIs, answered, back_from, has_asked};
 ghost use Rattle.jd_walk.specs.declared.places.Next.{Next};
 ghost use Rattle.jd_walk.specs.declared.places.Next.TheVariants.{Ask};
 
-use crate::begins::{begun, find_next};
 use crate::places::{FirstEnd, Next, Saved};
-use crate::runs::Position;
+use crate::runs::{Position, find_next};
 use crate::walks::Walk;
-use jd_circuit::{Circuit, Lit, Mark, NoMemory, Rewrite};
-use jd_problem::Problem;
-use jd_vectors::Lits;
+use jd_circuit::{Lit, Mark, NoMemory, Rewrite};
 use std::alloc::Global;
 
 /// Cuts a path at a place, where yes then stands last.
@@ -45,37 +41,6 @@ fn over_at(first: Option<FirstEnd>, at: usize) -> Option<FirstEnd>
     }
 }
 
-/// Adds a guard.
-fn add_guard(guards: &mut Vec<Lit>, guard: Lit) -> Result<(), NoMemory>
-    ensures { OnOk result (guards.new.items ≡ guards.old.items ++ guard ∷ []) }
-{
-    match guards.push(guard) {
-        Ok(()) => Ok(()),
-        Err(_) => Err(NoMemory),
-    }
-}
-
-/// Literals in memory of their own.
-fn listed(alloc: Global, lits: &Lits) -> Result<Vec<Lit>, NoMemory>
-    ensures { IfOk result (λ list. list.items ≡ lits.now) }
-{
-    let mut list = Vec::new(alloc);
-    for i in 0..lits.len() {
-        add_guard(&mut list, lits.at(i))?;
-    }
-    Ok(list)
-}
-
-/// Adds an answer.
-fn add_answer(path: &mut Vec<bool>, yes: bool) -> Result<(), NoMemory>
-    ensures { OnOk result (path.new.items ≡ path.old.items ++ yes ∷ []) }
-{
-    match path.push(yes) {
-        Ok(()) => Ok(()),
-        Err(_) => Err(NoMemory),
-    }
-}
-
 /// Keeps where the walk stands at a question.
 fn save(
     alloc: Global,
@@ -98,20 +63,11 @@ fn save(
             from: position.from,
         },
     };
-    match saved.push(now) {
-        Ok(()) => Ok(()),
-        Err(_) => Err(NoMemory),
-    }
+    saved.push(now)?;
+    Ok(())
 }
 
 impl<'r, W: Rewrite> Walk<'r, W> {
-    /// The answers so far.
-    pub fn path(&self) -> &[bool]
-        ensures { result.now ≡ self.now.path }
-    {
-        self.path.as_slice()
-    }
-
     /// Cuts the path back to its last no, which becomes yes. False exactly where the path has no no,
     /// and then nothing changes. Takes no memory.
     pub fn back(&mut self) -> bool
@@ -146,8 +102,8 @@ impl<'r, W: Rewrite> Walk<'r, W> {
         ensures spent { OnErr result (self.new.spent ≡ true) }
     {
         self.spent = true;
-        add_guard(&mut self.guards, ask)?;
-        add_answer(&mut self.path, true)?;
+        self.guards.push(ask)?;
+        self.path.push(true)?;
         self.next = None;
         self.spent = false;
         Ok(())
@@ -169,8 +125,8 @@ impl<'r, W: Rewrite> Walk<'r, W> {
             self.circuit.mark(),
             &self.at,
         )?;
-        add_guard(&mut self.guards, ask.opposite())?;
-        add_answer(&mut self.path, false)?;
+        self.guards.push(ask.opposite())?;
+        self.path.push(false)?;
         self.next = None;
         self.spent = false;
         Ok(())
@@ -187,25 +143,19 @@ impl<'r, W: Rewrite> Walk<'r, W> {
         if self.spent {
             return Err(NoMemory);
         }
-        match self.next {
-            Some(Next::Ask(ask)) => {
-                if yes {
-                    self.say_yes(ask)?;
-                    Ok(())
-                } else {
-                    self.say_no(ask)?;
-                    Ok(())
-                }
-            }
-            _ => {
-                self.spent = true;
-                Err(NoMemory)
-            }
+        let Some(Next::Ask(ask)) = self.next else {
+            unreachable!()
+        };
+        if yes {
+            self.say_yes(ask)
+        } else {
+            self.say_no(ask)
         }
     }
 
     /// Goes on to the next question, or to the place where both runs have ended or are late. A second
-    /// call in the same place says the same and adds no gate. After NoMemory the walk is spent.
+    /// call in the same place says the same and adds no gate. After NoMemory the walk is spent. A
+    /// circuit of 2^29 gates has no room for those of another line: that too is answered by NoMemory.
     pub fn next(&mut self) -> Result<Next, NoMemory>
         ensures walk { IfOk result (λ n. self.new ≡ record self.old { net = self.new.net; next = Some n }) }
         ensures grows { OnOk result (Grows self.old.net self.new.net) }
@@ -232,38 +182,5 @@ impl<'r, W: Rewrite> Walk<'r, W> {
         self.next = Some(next);
         self.spent = false;
         Ok(next)
-    }
-
-    /// A walk at the empty path, where the first run begins.
-    pub fn new(alloc: Global, problem: &Problem, rules: &'r W) -> Result<Walk<'r, W>, NoMemory>
-        ensures problem { IfOk result (λ w. w.problem ≡ problem_of problem.now) }
-        ensures path { IfOk result (λ w. w.path ≡ []) }
-        ensures next { IfOk result (λ w. w.next ≡ None) }
-        ensures unspent { IfOk result (λ w. w.spent ≡ false) }
-    {
-        let problem = problem.copy();
-        let mut circuit = Circuit::new(alloc, rules, problem.free_bits())?;
-        let machine = begun(alloc, &mut circuit, &problem, false)?;
-        let literals = machine.sym_assume(&mut circuit, &problem)?;
-        let assumed = listed(alloc, &literals)?;
-        let left = problem.steps;
-        let _ = circuit.mark();
-        Ok(Walk {
-            alloc,
-            problem,
-            circuit,
-            path: Vec::new(alloc),
-            assumed,
-            guards: Vec::new(alloc),
-            saved: Vec::new(alloc),
-            first: None,
-            at: Position {
-                machine,
-                left,
-                from: 0,
-            },
-            next: None,
-            spent: false,
-        })
     }
 }

@@ -1,9 +1,9 @@
 -- The leaf of a walk's path.
-use Rattle.std.specs.Prelude.{◌≡◌, true, Option, Some, None}
+use Rattle.std.specs.Prelude.{◌≡◌, ◌≤◌, ◌^◌, true, length, Option, Some}
 use Rattle.jd_circuit.specs.declared.literals.Lit.{Lit}
 use Rattle.jd_circuit.specs.declared.literals.Lit.TheVariants.{Const}
 use Rattle.jd_trees.specs.declared.Kind.{Kind}
-use Rattle.jd_trees.specs.declared.Kind.TheVariants.{Whole, Cut}
+use Rattle.jd_trees.specs.declared.Kind.TheVariants.{Whole}
 use Rattle.jd_books.specs.Leaves.{Leaf, IsFaithful}
 use Rattle.jd_cones.specs.Cones.{IsConeOf}
 use Rattle.jd_walk.specs.declared.places.Next.{Next}
@@ -21,11 +21,13 @@ leaf_at w kind = record { path = w.path; inputs = w.net.inputs; gates = w.net.ga
 
 pub record IsWholeLeafOf (w : Walked) (kind : Kind) (l : Leaf) : Type 0 where
   pub is : l ≡ leaf_at w kind
+  pub few : length l.gates ≤ 2 ^ 30
   pub faithful : IsFaithful w.problem l
 
--- a faithful leaf of a walk's path, with the gates alone that its guards and its difference stand on
+-- a faithful leaf of a walk's path, with the gates alone that its guards and its difference stand on, 2^30 at most
 pub record IsLeafOf (w : Walked) (kind : Kind) (l : Leaf) : Type 0 where
   pub path : l.path ≡ w.path
   pub kind_is : l.kind ≡ kind
   pub cone : IsConeOf (leaf_at w kind) l
+  pub few : length l.gates ≤ 2 ^ 30
   pub faithful : IsFaithful w.problem l

@@ -1,5 +1,5 @@
 use Rattle.std.proofs.Common.{◌≡◌, take}
-use Rattle.jd_walk.proofs.calls.listed.Given as goal
+use Rattle.jd_walk.proofs.walks.listed.Given as goal
 
 abbrev pub invariant-loop-i : goal.invariant-loop-i
 invariant-loop-i l = l.list.items ≡ take l.i l.lits
