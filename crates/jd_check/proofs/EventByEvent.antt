@@ -20,7 +20,7 @@ use Rattle.jd_leaves.specs.Views.{leaf_of}
 use Rattle.jd_check.specs.declared.progress.Open.{Open}
 use Rattle.jd_check.specs.declared.progress.Progress.{Progress}
 use Rattle.jd_check.specs.Events.{Begins, BeginsTree, lines_from, open_lines}
-use Rattle.jd_walk.specs.Taken.{IsLeafOf}
+use Rattle.jd_walk.specs.Leaves.{IsLeafOf}
 use Rattle.jd_trees.specs.declared.Kind.TheVariants as kinds
 use Rattle.jd_check.specs.Progress.{IsNext, IsOpen, IsTaken, bad_of, log_after, path_of}
 use Rattle.jd_check.specs.Runs.{IsBetween, IsInside, IsOpenOrNot, IsRight, IsTakenOf, IsWhole, IsWrong, IsWrongOrNot, beginning}

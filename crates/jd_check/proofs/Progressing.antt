@@ -19,7 +19,7 @@ use Rattle.jd_check.specs.declared.progress.Progress.{Progress}
 use Rattle.jd_leaves.specs.declared.leaf.Leaf.{Leaf}
 use Rattle.jd_leaves.specs.declared.lists.Path.{Path}
 use Rattle.jd_leaves.specs.Views.{leaf_of}
-use Rattle.jd_walk.specs.Taken.{IsLeafOf}
+use Rattle.jd_walk.specs.Leaves.{IsLeafOf}
 use Rattle.jd_walk.specs.Walked.{Walked, answered, back_from}
 use Rattle.jd_check.specs.Progress.{log_after, bad_of, path_of, next_of, IsTaken, IsNext, IsOpen}
 use Rattle.jd_check.specs.declared.progress.Open.{Open}

@@ -1,5 +1,6 @@
 -- One node more.
 use Rattle.std.proofs.Common.{◌≡◌, Bool, true, false, List, [], ◌∷◌, ◌++◌, length, map, Option, Some, None, refl, sym, ap, ◌∙◌, subst, arith, append_assoc, append-nil}
+use Rattle.std.proofs.lemmas.List.{map-append}
 use Rattle.std.proofs.lemmas.List.Elements.{All-push}
 use Rattle.jd_model.specs.Problems.{Problem}
 use Rattle.jd_trees.specs.declared.Kind.TheVariants.{Whole}
@@ -82,15 +83,11 @@ open-push (k ∷ book) (x ∷ ps) l q n =
     ap (or_open x.path (log_end k x.log)) (open-push book ps l q (omega (arith, n)))
     ∙ or-open-first x.path (log_end k x.log) (first_open book ps) (or_open q.path (log_end l q.log) None)
 
-map-push : {X Y : Type 0} (f : X → Y) (xs : List X) (x : X) → map f (xs ++ x ∷ []) ≡ map f xs ++ f x ∷ []
-map-push f [] x = refl
-map-push {X} {Y} f (y ∷ xs) x = ap {B = List Y} (λ r. f y ∷ r) (map-push f xs x)
-
 pub book-push : (p : Problem) (ps : List Place) (q : Place) (book : List Leaf) (l : Leaf) → IsBookOf p ps book → l.path ≡ q.path → l.kind ≡ q.kind → IsFaithful p l
     → IsBookOf p (ps ++ q ∷ []) (book ++ l ∷ [])
 book-push p ps q book l b path kind faithful = record {
-  paths = map-push (λ l. l.path) book l ∙ ap (λ r. r ++ l.path ∷ []) b.paths ∙ ap (λ x. map (λ place. place.path) ps ++ x ∷ []) path ∙ sym (map-push (λ place. place.path) ps q);
-  kinds = map-push (λ l. l.kind) book l ∙ ap (λ r. r ++ l.kind ∷ []) b.kinds ∙ ap (λ x. map (λ place. place.kind) ps ++ x ∷ []) kind ∙ sym (map-push (λ place. place.kind) ps q);
+  paths = map-append (λ l. l.path) book (l ∷ []) ∙ ap (λ r. r ++ l.path ∷ []) b.paths ∙ ap (λ x. map (λ place. place.path) ps ++ x ∷ []) path ∙ sym (map-append (λ place. place.path) ps (q ∷ []));
+  kinds = map-append (λ l. l.kind) book (l ∷ []) ∙ ap (λ r. r ++ l.kind ∷ []) b.kinds ∙ ap (λ x. map (λ place. place.kind) ps ++ x ∷ []) kind ∙ sym (map-append (λ place. place.kind) ps (q ∷ []));
   faithful = All-push (IsFaithful p) book l b.faithful faithful;
 }
 

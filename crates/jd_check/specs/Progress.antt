@@ -11,7 +11,7 @@ use Rattle.jd_books.specs.Leaves.{IsBookOf}
 use Rattle.jd_books.specs.Checks.{LogEnd, bad_at, log_end_from, log_end, BadAt, first_bad, first_open}
 use Rattle.jd_leaves.specs.Views.{leaf_of}
 use Rattle.jd_leaves.specs.declared.lists.Path.{Path}
-use Rattle.jd_walk.specs.Taken.{IsLeafOf}
+use Rattle.jd_walk.specs.Leaves.{IsLeafOf}
 use Rattle.jd_check.specs.declared.lines.LogCheck.{LogCheck}
 use Rattle.jd_check.specs.declared.progress.Bad.{Bad}
 use Rattle.jd_check.specs.declared.progress.Open.{Open}

@@ -68,12 +68,7 @@ fn at_node<'r>(
             let next = begin(alloc, progress, kind)?;
             Ok(next)
         }
-        Event::Line(_) => Ok(Going {
-            progress,
-            part: None,
-            shape: None,
-        }),
-        Event::End => Ok(Going {
+        Event::Line(_) | Event::End => Ok(Going {
             progress,
             part: None,
             shape: None,
@@ -122,12 +117,7 @@ fn in_log<'r>(
         → IsShort events → IsGoing p (events ++ event_of event.entry ∷ []) g) }
 {
     match event {
-        Event::Fork => Ok(Going {
-            progress,
-            part: Some(part),
-            shape: None,
-        }),
-        Event::Begin(_) => Ok(Going {
+        Event::Fork | Event::Begin(_) => Ok(Going {
             progress,
             part: Some(part),
             shape: None,

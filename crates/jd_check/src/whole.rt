@@ -1,5 +1,5 @@
 //! The check of a whole certificate.
-ghost use Rattle.std.specs.Prelude.{◌≡◌, ◌∷◌, ◌++◌, ◌+◌, ◌<◌, ◌^◌, [], List, length, IfOk, OnOk};
+ghost use Rattle.std.specs.Prelude.{◌≡◌, ◌++◌, List, IfOk, OnOk};
 ghost use Rattle.jd_model.specs.Problems.{Problem as ProblemOf};
 ghost use Rattle.jd_problem.specs.Problems.{problem_of};
 ghost use Rattle.jd_trees.specs.declared.CertEvent.{CertEvent};

@@ -1,5 +1,5 @@
 //! The lines of a certificate, one after another: each is read, and what it tells is checked.
-ghost use Rattle.std.specs.Prelude.{◌≡◌, ◌∷◌, ◌++◌, ◌+◌, ◌<◌, ◌^◌, [], ℕ, List, IfOk, IfErr, OnOk};
+ghost use Rattle.std.specs.Prelude.{◌∷◌, ◌++◌, ◌+◌, ◌<◌, ◌^◌, [], ℕ, List, IfOk, IfErr, OnOk};
 ghost use Rattle.jd_model.specs.Problems.{Problem};
 ghost use Rattle.jd_text.specs.Words.{words_of};
 ghost use Rattle.jd_check.specs.Runs.{IsChecking};

@@ -1,5 +1,5 @@
 //! The lines of a source as a certificate.
-ghost use Rattle.std.specs.Prelude.{◌≡◌, ◌+◌, ◌<◌, ◌^◌, length, IfOk};
+ghost use Rattle.std.specs.Prelude.{◌+◌, ◌<◌, ◌^◌, length, IfOk};
 ghost use Rattle.jd_problem.specs.Problems.{problem_of};
 ghost use Rattle.jd_checking.specs.CertChecks.{IsRestChecked};
 ghost use Rattle.jd_checking.specs.Finds.{Costs};

@@ -2,7 +2,7 @@
 use Rattle.std.proofs.Common.{◌≡◌, ◌≢◌, ◌⊎◌, ℕ, ◌<◌, ◌≤◌, Bool, true, false, not, List, [], ◌∷◌, ◌++◌, length, Option, Some, None, refl, sym, ap, ◌∙◌, subst, arith, length-append}
 use Rattle.std.specs.Prelude.{All, is_some}
 use Rattle.std.proofs.lemmas.Bool.{false≢true}
-use Rattle.std.proofs.lemmas.List.Elements.{All-push}
+use Rattle.std.proofs.lemmas.List.Elements.{All-nil, All-push}
 use Rattle.hp_model.specs.State.{Data}
 use Rattle.jd_logic.specs.declared.Line.{Line}
 use Rattle.jd_model.specs.Problems.{Problem, IsProblem, allows, free_bits, start_of}
@@ -29,7 +29,7 @@ use Rattle.jd_check.proofs.Taking.{after-push}
 use Rattle.jd_proving.specs.Proving.{IsModel, IsRefuted, IsUnknown}
 use Rattle.jd_decided.proofs.Refuted.{refutation-right}
 use Rattle.jd_decided.proofs.Values.{model-values}
-use Rattle.jd_walk.specs.Taken.{IsLeafOf}
+use Rattle.jd_walk.specs.Leaves.{IsLeafOf}
 use Rattle.jd_walk.specs.Walked.{Walked, answered, back_from}
 use Rattle.jd_judge.specs.Judging.{path_if_whole, whole_paths, IsEqual, IsUnknownAt, AreStartsSoFar, IsPlaced, Comes, IsOwn, with_start}
 use Rattle.jd_judge.proofs.Turns.{IsGrown, IsBackTo, grown, whole-proved, next-climb, forked, whole-push, cut-push, starts-cut, starts-whole, starts-length, too-many, back-some, back-none, left-all, longer-all}
@@ -235,9 +235,6 @@ unknown-here p l log budget f place u is = (
 
 -- ---- where the judge begins
 
-none-all : {X : Type 0} (P : X → Type 0) → All P []
-none-all P k d inside = absurd (omega (arith, inside))
-
 pub begun-placed : (p : Problem) (w : Walked) → w.problem ≡ p → w.path ≡ [] → w.spent ≡ false → IsPlaced p w [] [] []
 begun-placed p w problem path spent = record {
   problem = problem;
@@ -248,12 +245,12 @@ begun-placed p w problem path spent = record {
   next = ap Some (sym path);
   tree = record {
     covered = refl;
-    leaves = record { paths = refl; kinds = refl; faithful = none-all (IsFaithful p) };
+    leaves = record { paths = refl; kinds = refl; faithful = All-nil (IsFaithful p) };
     right = refl;
     refuted = refl;
   };
-  ranges = none-all IsNode;
-  starts_are = record { allowed = none-all (λ s. allows p s ≡ true); answers = refl; ordered = λ i j d below inside. absurd (omega (arith, inside)) };
+  ranges = All-nil IsNode;
+  starts_are = record { allowed = All-nil (λ s. allows p s ≡ true); answers = refl; ordered = λ i j d below inside. absurd (omega (arith, inside)) };
   few = omega arith;
-  left = none-all (λ q. is_left_of q w.path ≡ true);
+  left = All-nil (λ q. is_left_of q w.path ≡ true);
 }

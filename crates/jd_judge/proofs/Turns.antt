@@ -2,7 +2,7 @@
 use Rattle.std.proofs.Common.{◌≡◌, ◌≢◌, suc, Bool, true, false, List, [], ◌∷◌, ◌++◌, length, map, get_or, Option, Some, None, refl, sym, ap, ◌∙◌, subst, arith, append-nil}
 use Rattle.std.specs.Prelude.{All, AllPairs, is_some}
 use Rattle.std.proofs.lemmas.Bool.{false≢true}
-use Rattle.std.proofs.lemmas.List.{length-map, get_or-map}
+use Rattle.std.proofs.lemmas.List.{length-map, get_or-map, map-append}
 use Rattle.std.proofs.lemmas.List.Elements.{All-push}
 use Rattle.std.proofs.lemmas.List.Quantifiers.{all_pairs_push}
 use Rattle.std.proofs.lemmas.Grind.{flat_map-append}
@@ -13,7 +13,7 @@ use Rattle.jd_trees.specs.declared.Kind.TheVariants.{Whole, Cut}
 use Rattle.jd_books.specs.Paths.{AsksAfter, next_path, answers_of_start}
 use Rattle.jd_trees.specs.declared.Node.{Node}
 use Rattle.jd_trees.specs.declared.Node.TheVariants.{Fork}
-use Rattle.jd_trees.specs.Trees.{Tree, IsNode, node, preorder}
+use Rattle.jd_trees.specs.Trees.{Tree, node, preorder}
 use Rattle.jd_trees.specs.Trees as tree
 use Rattle.jd_books.specs.Trees.{Place, places, or_first, fork_fault, leaf_fault}
 use Rattle.jd_books.specs.Nodes.{after_nodes, node_fault, places_along, uncovered_along}
@@ -102,10 +102,6 @@ forked p path nodes book at h asks =
 
 -- ---- the starts
 
-pub map-push : {X Y : Type 0} (f : X → Y) (xs : List X) (x : X) → map f (xs ++ x ∷ []) ≡ map f xs ++ f x ∷ []
-map-push f [] x = refl
-map-push {X} {Y} f (y ∷ xs) x = ap {B = List Y} (λ r. f y ∷ r) (map-push f xs x)
-
 pub whole-push : (book : List LeafOf) (l : LeafOf) → whole_paths (book ++ l ∷ []) ≡ whole_paths book ++ path_if_whole l.kind l.path
 whole-push book l =
     flat_map-append (λ (k : LeafOf). path_if_whole k.kind k.path) book (l ∷ []) ∙ ap (λ r. whole_paths book ++ r) (append-nil (path_if_whole l.kind l.path))
@@ -129,7 +125,7 @@ starts-whole p book starts l s h is allowed own left =
     let same : whole_paths (book ++ l ∷ []) ≡ whole_paths book ++ l.path ∷ [] = whole-push book l ∙ ap (λ k. whole_paths book ++ path_if_whole k l.path) is in
     record {
       allowed = All-push (λ s. allows p s ≡ true) starts s h.allowed allowed;
-      answers = map-push (answers_of_start p) starts s ∙ ap (λ r. r ++ answers_of_start p s ∷ []) h.answers ∙ ap (λ r. whole_paths book ++ r ∷ []) own ∙ sym same;
+      answers = map-append (answers_of_start p) starts (s ∷ []) ∙ ap (λ r. r ++ answers_of_start p s ∷ []) h.answers ∙ ap (λ r. whole_paths book ++ r ∷ []) own ∙ sym same;
       ordered = subst (AllPairs (λ q r. is_left_of q r ≡ true)) (sym same) (all_pairs_push (λ q r. is_left_of q r ≡ true) (whole_paths book) l.path h.ordered left);
     }
 

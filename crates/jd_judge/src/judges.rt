@@ -1,5 +1,5 @@
 //! The judge.
-ghost use Rattle.std.specs.Prelude.{◌≡◌, IfOk};
+ghost use Rattle.std.specs.Prelude.{IfOk};
 ghost use Rattle.jd_problem.specs.Problems.{problem_of};
 ghost use Rattle.jd_judge.specs.Judging.{IsJudged};
 
@@ -25,6 +25,7 @@ pub fn judge(alloc: Global, problem: &Problem, rules: &RuleSet) -> Result<Judged
         starts: Starts::new(alloc),
         witness: None,
     };
+    // 2^64 turns never pass: the bound stands in for a measure.
     'places: for _ in 0..u64::MAX {
         match step(alloc, problem, judging)? {
             Step::Go(next) => judging = next,

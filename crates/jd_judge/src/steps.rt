@@ -1,11 +1,10 @@
 //! The judge's steps: at a path that was just entered, at a question, and at the end of both runs.
-ghost use Rattle.std.specs.Prelude.{◌≡◌, ◌≢◌, ◌<◌, ◌≤◌, ◌↔◌, ◌++◌, ◌∷◌, [], length, false, true, Some, IfOk, IsTrue, OnOk};
+ghost use Rattle.std.specs.Prelude.{◌≡◌, ◌≢◌, ◌<◌, ◌≤◌, ◌↔◌, [], length, true, Some, IfOk, IsTrue, OnOk};
 ghost use Rattle.jd_model.specs.Problems.{Problem as ProblemOf, IsProblem, free_bits, start_of};
 ghost use Rattle.jd_problem.specs.Problems.{problem_of};
 ghost use Rattle.jd_start.specs.Starts.{start_data};
-ghost use Rattle.jd_trees.specs.Trees.{IsNode, node};
 ghost use Rattle.jd_books.specs.Leaves.{clauses_of};
-ghost use Rattle.jd_books.specs.Paths.{AsksAfter, OverAfter, answers_of_start};
+ghost use Rattle.jd_books.specs.Paths.{AsksAfter, OverAfter};
 ghost use Rattle.jd_leaves.specs.Views.{leaf_of};
 ghost use Rattle.jd_propagate.specs.Answers.{IsAnswer};
 ghost use Rattle.jd_walk.specs.Walked.{has_asked, is_done};
@@ -14,8 +13,8 @@ ghost use Rattle.jd_judge.specs.Judging.{IsJudging, IsJudgingAt, IsOwn, IsStep, 
 use crate::outcomes::{Judged, Judging, Step};
 use crate::starts::Starts;
 use hp_io::NoMemory;
+use jd_cert::node;
 use jd_learn::{Proof, prove};
-use jd_logic::Log;
 use jd_problem::Problem;
 use jd_start::{Bits as FreeBits, Start};
 use jd_trees::Node;
@@ -44,28 +43,6 @@ fn start_with(problem: &Problem, bits: &[bool]) -> Start
     problem.start_of(&free)
 }
 
-/// A leaf or a cut of a certificate.
-fn node(kind: Kind, log: Log) -> Node
-    ensures node { result ≡ node kind log }
-    ensures ranges { IsNode result }
-{
-    let _ = log.lines();
-    match kind {
-        Kind::Whole => Node::Leaf(log),
-        Kind::Cut => Node::Cut(log),
-    }
-}
-
-/// Adds a node.
-fn push_node(nodes: &mut Vec<Node>, node: Node) -> Result<(), NoMemory>
-    ensures { OnOk result (nodes.new.items ≡ nodes.old.items ++ node ∷ []) }
-{
-    match nodes.push(node) {
-        Ok(()) => Ok(()),
-        Err(_) => Err(NoMemory),
-    }
-}
-
 /// Looks for a start that comes to the path that was just entered. Where none does, a cut stands
 /// there, and the walk goes back to the next path; where there is no next path, the tree is whole.
 fn enter<'r>(alloc: Global, problem: &Problem, judging: Judging<'r>) -> Result<Step<'r>, NoMemory>
@@ -75,6 +52,7 @@ fn enter<'r>(alloc: Global, problem: &Problem, judging: Judging<'r>) -> Result<S
     ensures { IfOk result (IsStep (problem_of problem.now)) }
 {
     let mut judging = judging;
+    // 2^64 turns never pass: the bound stands in for a measure.
     'places: for _ in 0..u64::MAX {
         let leaf = judging.walk.leaf(Kind::Cut)?;
         match ask(alloc, problem, &leaf)? {
@@ -84,7 +62,7 @@ fn enter<'r>(alloc: Global, problem: &Problem, judging: Judging<'r>) -> Result<S
             }
             Proof::Unknown(log) => return Ok(Step::Over(Judged::Unknown(leaf, log))),
             Proof::Refuted(log) => {
-                push_node(&mut judging.nodes, node(Kind::Cut, log))?;
+                judging.nodes.push(node(Kind::Cut, log))?;
                 judging.book.push(leaf)?;
                 if !judging.walk.back() {
                     return Ok(Step::Over(judging.into_equal()));
@@ -108,7 +86,7 @@ fn at_question<'r>(
     ensures { IfOk result (IsStep (problem_of problem.now)) }
 {
     let mut judging = judging;
-    push_node(&mut judging.nodes, Node::Fork)?;
+    judging.nodes.push(Node::Fork)?;
     judging.walk.answer(false)?;
     let step = enter(alloc, problem, judging)?;
     Ok(step)
@@ -152,7 +130,7 @@ fn decide<'r>(
         )))),
         Proof::Unknown(log) => Ok(Step::Over(Judged::Unknown(leaf, log))),
         Proof::Refuted(log) => {
-            push_node(&mut judging.nodes, node(Kind::Whole, log))?;
+            judging.nodes.push(node(Kind::Whole, log))?;
             judging.book.push(leaf)?;
             keep(&mut judging.starts, start)?;
             if !judging.walk.back() {

@@ -9,6 +9,6 @@ pub enter-requires-clause-placed : goal.enter-requires-clause-placed
 enter-requires-clause-placed g c =
     let p = problem_of c.args.problem.now in
     let old = c.args.judging in
-    subst (λ w. IsPlaced p w c.push_node.new.nodes.items old.book old.starts) (sym c.in_ok-answer.ensures.walk)
-    (subst (λ ns. IsPlaced p (answered old.walk false) ns old.book old.starts) (sym c.in_ok-push_node.ensures)
+    subst (λ w. IsPlaced p w c.push.new.self.items old.book old.starts) (sym c.in_ok-answer.ensures.walk)
+    (subst (λ ns. IsPlaced p (answered old.walk false) ns old.book old.starts) (sym c.in_ok-push.ensures.items)
     (fork-placed p old.walk old.nodes.items old.book old.starts c.requires.placed c.requires.asks))

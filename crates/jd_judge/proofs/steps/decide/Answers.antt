@@ -52,7 +52,7 @@ into_equal-requires g c =
     let refuted : IsRefuted (clauses_of (leaf_of leaf)) c.args.problem.now.budget log = subst (IsAnswer (clauses_of (leaf_of leaf)) leaf.inputs c.args.problem.now.budget) c.in-Refuted.is c.in_ok-bits.ensures in
     let here : IsRefutedHere p old.walk Whole (leaf_of leaf) log =
     refuted-here p old.walk Whole (leaf_of leaf) log c.args.problem.now.budget (over-none p old.walk.path c.requires.over) c.in_ok-leaf.ensures placed.problem refuted (subst IsNode c.node.ensures.node c.node.ensures.ranges) in
-    let nodes = c.in_ok-push_node-in-Refuted.ensures ∙ ap (λ n. old.nodes.items ++ n ∷ []) c.node.ensures.node in
+    let nodes = c.in_ok-push-in-Refuted.ensures.items ∙ ap (λ n. old.nodes.items ++ n ∷ []) c.node.ensures.node in
     subst IsCert (sym nodes)
     (whole-finished p old.walk old.nodes.items old.book old.starts (leaf_of leaf) log placed here c.requires.room (sym c.back.ensures.back ∙ c.if-not-back.true)).cert
 
@@ -66,10 +66,10 @@ returns-then-not-back g c =
     let refuted : IsRefuted (clauses_of (leaf_of leaf)) c.args.problem.now.budget log = subst (IsAnswer (clauses_of (leaf_of leaf)) leaf.inputs c.args.problem.now.budget) c.in-Refuted.is c.in_ok-bits.ensures in
     let here : IsRefutedHere p old.walk Whole (leaf_of leaf) log =
     refuted-here p old.walk Whole (leaf_of leaf) log c.args.problem.now.budget (over-none p old.walk.path c.requires.over) c.in_ok-leaf.ensures placed.problem refuted (subst IsNode c.node.ensures.node c.node.ensures.ranges) in
-    let nodes = c.in_ok-push_node-in-Refuted.ensures ∙ ap (λ n. old.nodes.items ++ n ∷ []) c.node.ensures.node in
+    let nodes = c.in_ok-push-in-Refuted.ensures.items ∙ ap (λ n. old.nodes.items ++ n ∷ []) c.node.ensures.node in
     subst (IsJudged p) (sym c.into_equal.ensures)
-    (subst (λ ns. IsEqual p c.push.new.self ns) (sym nodes)
-    (subst (λ b. IsEqual p b (old.nodes.items ++ node Whole log ∷ [])) (sym c.in_ok-push-in-Refuted.ensures.pushed)
+    (subst (λ ns. IsEqual p c.push-in-Refuted.new.self ns) (sym nodes)
+    (subst (λ b. IsEqual p b (old.nodes.items ++ node Whole log ∷ [])) (sym c.in_ok-push-in-Refuted-2.ensures.pushed)
     (whole-finished p old.walk old.nodes.items old.book old.starts (leaf_of leaf) log placed here c.requires.room (sym c.back.ensures.back ∙ c.if-not-back.true)).equal))
 
 pub enter-requires-clause-path : goal.enter-requires-clause-path
@@ -89,9 +89,9 @@ enter-requires-clause-placed g c =
     let refuted : IsRefuted (clauses_of (leaf_of leaf)) c.args.problem.now.budget log = subst (IsAnswer (clauses_of (leaf_of leaf)) leaf.inputs c.args.problem.now.budget) c.in-Refuted.is c.in_ok-bits.ensures in
     let here : IsRefutedHere p old.walk Whole (leaf_of leaf) log =
     refuted-here p old.walk Whole (leaf_of leaf) log c.args.problem.now.budget (over-none p old.walk.path c.requires.over) c.in_ok-leaf.ensures placed.problem refuted (subst IsNode c.node.ensures.node c.node.ensures.ranges) in
-    let nodes = c.in_ok-push_node-in-Refuted.ensures ∙ ap (λ n. old.nodes.items ++ n ∷ []) c.node.ensures.node in
+    let nodes = c.in_ok-push-in-Refuted.ensures.items ∙ ap (λ n. old.nodes.items ++ n ∷ []) c.node.ensures.node in
     let k = c.back.new.self in
-    subst (IsPlaced p k c.push_node.new.nodes.items c.push.new.self) (sym c.in_ok-keep-in-Refuted.ensures)
-    (subst (λ b. IsPlaced p k c.push_node.new.nodes.items b (with_start old.starts c.args.start)) (sym c.in_ok-push-in-Refuted.ensures.pushed)
+    subst (IsPlaced p k c.push.new.self.items c.push-in-Refuted.new.self) (sym c.in_ok-keep-in-Refuted.ensures)
+    (subst (λ b. IsPlaced p k c.push.new.self.items b (with_start old.starts c.args.start)) (sym c.in_ok-push-in-Refuted-2.ensures.pushed)
     (subst (λ ns. IsPlaced p k ns (old.book ++ leaf_of leaf ∷ []) (with_start old.starts c.args.start)) (sym nodes)
     (whole-next p old.walk old.nodes.items old.book old.starts (leaf_of leaf) log k c.args.start placed here c.requires.own c.requires.room c.back.ensures.walk (sym c.back.ensures.back ∙ c.if-not-back.false))))

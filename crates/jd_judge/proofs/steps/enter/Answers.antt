@@ -55,7 +55,7 @@ into_equal-requires g c =
     let log = c.in-Refuted.log in
     let refuted : IsRefuted (clauses_of (leaf_of leaf)) c.args.problem.now.budget log = subst (IsAnswer (clauses_of (leaf_of leaf)) leaf.inputs c.args.problem.now.budget) c.in-Refuted.is c.in_ok-bits.ensures in
     let here : IsRefutedHere p old.walk Cut (leaf_of leaf) log = refuted-here p old.walk Cut (leaf_of leaf) log c.args.problem.now.budget refl c.in_ok-leaf.ensures placed.problem refuted (subst IsNode c.node.ensures.node c.node.ensures.ranges) in
-    let nodes = c.in_ok-push_node-in-Refuted.ensures ∙ ap (λ n. old.nodes.items ++ n ∷ []) c.node.ensures.node in
+    let nodes = c.in_ok-push-in-Refuted.ensures.items ∙ ap (λ n. old.nodes.items ++ n ∷ []) c.node.ensures.node in
     subst IsCert (sym nodes)
     (cut-finished p old.walk old.nodes.items old.book old.starts (leaf_of leaf) log placed here (sym c.back.ensures.back ∙ c.if-not-back.true)).cert
 
@@ -68,10 +68,10 @@ returns-then-not-back g c =
     let log = c.in-Refuted.log in
     let refuted : IsRefuted (clauses_of (leaf_of leaf)) c.args.problem.now.budget log = subst (IsAnswer (clauses_of (leaf_of leaf)) leaf.inputs c.args.problem.now.budget) c.in-Refuted.is c.in_ok-bits.ensures in
     let here : IsRefutedHere p old.walk Cut (leaf_of leaf) log = refuted-here p old.walk Cut (leaf_of leaf) log c.args.problem.now.budget refl c.in_ok-leaf.ensures placed.problem refuted (subst IsNode c.node.ensures.node c.node.ensures.ranges) in
-    let nodes = c.in_ok-push_node-in-Refuted.ensures ∙ ap (λ n. old.nodes.items ++ n ∷ []) c.node.ensures.node in
+    let nodes = c.in_ok-push-in-Refuted.ensures.items ∙ ap (λ n. old.nodes.items ++ n ∷ []) c.node.ensures.node in
     subst (IsJudged p) (sym c.into_equal.ensures)
-    (subst (λ ns. IsEqual p c.push.new.self ns) (sym nodes)
-    (subst (λ b. IsEqual p b (old.nodes.items ++ node Cut log ∷ [])) (sym c.in_ok-push-in-Refuted.ensures.pushed)
+    (subst (λ ns. IsEqual p c.push-in-Refuted.new.self ns) (sym nodes)
+    (subst (λ b. IsEqual p b (old.nodes.items ++ node Cut log ∷ [])) (sym c.in_ok-push-in-Refuted-2.ensures.pushed)
     (cut-finished p old.walk old.nodes.items old.book old.starts (leaf_of leaf) log placed here (sym c.back.ensures.back ∙ c.if-not-back.true)).equal))
 
 pub places-preserved : goal.places-preserved
@@ -83,11 +83,11 @@ places-preserved g c =
     let log = c.in-Refuted.log in
     let refuted : IsRefuted (clauses_of (leaf_of leaf)) c.args.problem.now.budget log = subst (IsAnswer (clauses_of (leaf_of leaf)) leaf.inputs c.args.problem.now.budget) c.in-Refuted.is c.in_ok-bits.ensures in
     let here : IsRefutedHere p old.walk Cut (leaf_of leaf) log = refuted-here p old.walk Cut (leaf_of leaf) log c.args.problem.now.budget refl c.in_ok-leaf.ensures placed.problem refuted (subst IsNode c.node.ensures.node c.node.ensures.ranges) in
-    let nodes = c.in_ok-push_node-in-Refuted.ensures ∙ ap (λ n. old.nodes.items ++ n ∷ []) c.node.ensures.node in
+    let nodes = c.in_ok-push-in-Refuted.ensures.items ∙ ap (λ n. old.nodes.items ++ n ∷ []) c.node.ensures.node in
     let some : is_some (next_path old.walk.path) ≡ true = sym c.back.ensures.back ∙ c.if-not-back.false in
     let k = c.back.new.self in (
       next-filled old.walk.path k.path (back-some old.walk k c.back.ensures.walk some).path,
-      subst (λ b. IsPlaced p k c.push_node.new.nodes.items b old.starts) (sym c.in_ok-push-in-Refuted.ensures.pushed)
+      subst (λ b. IsPlaced p k c.push.new.self.items b old.starts) (sym c.in_ok-push-in-Refuted-2.ensures.pushed)
           (subst (λ ns. IsPlaced p k ns (old.book ++ leaf_of leaf ∷ []) old.starts) (sym nodes)
           (cut-next p old.walk old.nodes.items old.book old.starts (leaf_of leaf) log k placed here c.back.ensures.walk some)),
     )
