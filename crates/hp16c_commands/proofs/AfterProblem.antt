@@ -1,8 +1,8 @@
 -- A problem and what is read after it, one after the other.
-use Rattle.std.proofs.Common.{◌≡◌, ℕ, suc, ◌+◌, ◌≤◌, ◌==◌, Bool, true, false, List, [], ◌∷◌, drop, take, length, sym, ap, ◌∙◌, arith}
+use Rattle.std.proofs.Common.{◌≡◌, ℕ, ◌+◌, List, drop, take, length, sym, ap, ◌∙◌}
 use Rattle.std.specs.Prelude.{Result, Ok, Err, ⊤}
 use Rattle.hp_model.specs.State.{Data}
-use Rattle.jd_text.specs.Lines.{put, pieces, lines_of, bytes_of_lines}
+use Rattle.jd_text.specs.Lines.{lines_of, bytes_of_lines}
 use Rattle.jd_model.specs.declared.causes.ProblemCause.{ProblemCause}
 use Rattle.jd_model.specs.Problems.{Problem}
 use Rattle.jd_model.specs.ProblemTexts.{problem_of}
@@ -60,16 +60,3 @@ more-after bytes p count line cause is read = bad-after nothing_more bytes p cou
 
 pub judge-fault : (bytes : List ℕ) (line : ℕ) (cause : ProblemCause) → problem_of bytes ≡ Err (line, cause) → judge_input bytes ≡ Err line
 judge-fault bytes line cause read = bad-problem nothing_more bytes line cause read
-
--- a text has at most as many lines as bytes
-pieces-few : (ends : ℕ → Bool) (bytes : List ℕ) → length (pieces ends bytes) ≤ length bytes
-pieces-few ends [] = omega arith
-pieces-few ends (b ∷ bytes) = by_end (ends b) (pieces ends bytes) (pieces-few ends bytes)
-  where
-    by_end : (e : Bool) (ps : List (List ℕ)) → length ps ≤ length bytes → length (put e b ps) ≤ suc (length bytes)
-    by_end true ps h = omega (arith, h)
-    by_end false [] h = omega arith
-    by_end false (p ∷ ps) h = omega (arith, h)
-
-pub lines-few : (bytes : List ℕ) → length (lines_of bytes) ≤ length bytes
-lines-few bytes = pieces-few (λ b. b == 10) bytes

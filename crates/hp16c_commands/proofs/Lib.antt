@@ -5,3 +5,4 @@ pub mod InTwoParts
 pub mod Answered
 pub mod CutShort
 pub mod AfterProblem
+mod Examples

@@ -30,6 +30,7 @@ pub fn hp16c<S: Source, K: Sink>(
     ensures usage { result.status ≡ Status.Usage ↔ IsNoCommand words.now }
     ensures usage_reads { result.status ≡ Status.Usage → source.new ≡ source.old }
     ensures usage_writes { result.status ≡ Status.Usage → sink.new ≡ sink.old }
+    ensures usage_keeps { result.status ≡ Status.Usage → result.kept ≡ Kept.Nothing }
 
     // `keys`: the text and the status are the key file's. Where the source tells its bytes, they alone
     // decide, and no memory is taken.

@@ -1,6 +1,6 @@
 use Rattle.std.proofs.Common.{arith}
 use Rattle.std.proofs.lemmas.List.{length-take}
-use Rattle.hp16c_commands.proofs.AfterProblem.{lines-few}
+use Rattle.jd_lines.proofs.LinesTaken.{lines-few}
 use Rattle.hp16c_commands.proofs.after_problem.line_after.Goals as goal
 
 pub overflow_add-result : goal.overflow_add-result
