@@ -1,4 +1,4 @@
-// Arithmetic.
+// The operations of arithmetic on Y and X: what they ask, and what they leave in the stack.
 ghost use Rattle.std.specs.Prelude.{◌≡◌, ◌^◌, ◌<◌, [], ◌∷◌, pos, int_lt, is_err, IfOk};
 ghost use Rattle.hp_model.specs.Words.{value};
 ghost use Rattle.hp_model.specs.WordOperations.{root_of};

@@ -1,4 +1,4 @@
-// Registers.
+// The operations on registers: which register an operation reaches, and what it writes there.
 ghost use Rattle.std.specs.Prelude.{◌≡◌, ◌^◌, ◌<◌, ◌≤◌, [], None, true, MatchOption};
 ghost use Rattle.hp_model.specs.State.{registers, index_bits as index_bits_of, memory_bytes};
 ghost use Rattle.hp_model.specs.Operations as ops;

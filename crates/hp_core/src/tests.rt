@@ -53,6 +53,7 @@ fn worked_operations(rt: HostRuntime) {
         (Unsigned, 0xFE, 0x01, 0xFF, 57, GO, 0xFF, 0, false, false),
         (Unsigned, 0x05, 0, 0x06, 17, GO, 0xFF, 0, true, true),
         (Ones, 0xFE, 0, 0x01, 16, GO, 0xFF, 0, false, false),
+        (Twos, 0x7F, 0, 0x01, 16, GO, 0x80, 0, false, true),
         (
             Unsigned, 0x55, 0, 0x41, 62, error_2, 0x41, 0x55, false, false,
         ),
