@@ -23,10 +23,10 @@ fn run_file(rt: &HostRuntime, path: &str) -> io::Result<()> {
     let count = rows.len();
     let mut good: u64 = 0;
     for row in rows {
-        let title = String::from_str(rt.alloc(), row.title.as_str())?;
-        if is_as_expected(rt.alloc(), row)? {
+        if is_as_expected(rt.alloc(), &row)? {
             good = good.saturating_add(1);
         } else {
+            let title = row.title.as_str();
             println!(rt; "{path}: {title}: not as expected")?;
         }
     }

@@ -1,7 +1,7 @@
 //! Runs of the commands of rows.
 use crate::rows::Row;
 use crate::streams::{EndlessSource, SlowSink, SlowSource};
-use hp_io::{MemSink, MemSource, next_byte};
+use hp_io::{MemSink, MemSource, Sink, Source, next_byte};
 use hp16c_commands::{Kept, Outcome, hp16c};
 use jd_rules::RuleSet;
 use std::alloc::{AllocError, Global};
@@ -69,50 +69,48 @@ fn room(alloc: Global, row: &Row) -> Result<Vec<u8>, AllocError> {
     Ok(vec![in alloc; 0u8; row.output.len().saturating_add(1)]?)
 }
 
+/// Does a row's command over these streams, with no rules.
+fn command<S: Source, K: Sink>(alloc: Global, row: &Row, source: &mut S, sink: &mut K) -> Outcome {
+    let rules = RuleSet::new(Vec::new(alloc));
+    hp16c(alloc, row.words.as_slice(), source, sink, &rules)
+}
+
 /// Does a row's command over its input.
 pub fn run(alloc: Global, row: &Row, pace: Pace, failing: Failing) -> Result<Ended, AllocError> {
-    let rules = RuleSet::new(Vec::new(alloc));
-    let words = row.words.as_slice();
     let input = row.input.clone()?;
     match pace {
         Pace::AllAtOnce => {
             let mut source = MemSource::new(input, vec![in alloc; failing.read]?);
             let mut sink = MemSink::new(room(alloc, row)?, vec![in alloc; failing.write]?);
-            let outcome = hp16c(alloc, words, &mut source, &mut sink, &rules);
+            let outcome = command(alloc, row, &mut source, &mut sink);
             end_of(alloc, outcome, sink.written())
         }
         Pace::ByteByByte => {
             let mut source = SlowSource::new(input, failing.read);
             let mut sink = SlowSink::new(Vec::new(alloc), failing.write);
-            let outcome = hp16c(alloc, words, &mut source, &mut sink, &rules);
+            let outcome = command(alloc, row, &mut source, &mut sink);
             end_of(alloc, outcome, sink.written())
         }
     }
 }
 
-/// Does a row's command over the source without an end, and answers whether it ends as the row says.
-fn ends_as_expected(alloc: Global, row: &Row) -> Result<bool, AllocError> {
-    let rules = RuleSet::new(Vec::new(alloc));
+/// Does a row's command over the source without an end.
+fn run_endless(alloc: Global, row: &Row) -> Result<Ended, AllocError> {
     let mut source = EndlessSource::new();
     let mut sink = MemSink::new(room(alloc, row)?, Vec::new(alloc));
-    let outcome = hp16c(alloc, row.words.as_slice(), &mut source, &mut sink, &rules);
-    Ok(outcome.status.number() == row.status && sink.written() == row.output.as_slice())
+    let outcome = command(alloc, row, &mut source, &mut sink);
+    end_of(alloc, outcome, sink.written())
 }
 
 /// Does a row's command, and answers whether it ends, writes and leaves what the row says.
-pub fn is_as_expected(alloc: Global, row: Row) -> Result<bool, AllocError> {
+pub fn is_as_expected(alloc: Global, row: &Row) -> Result<bool, AllocError> {
     if row.endless {
-        return ends_as_expected(alloc, &row);
+        return Ok(run_endless(alloc, row)?.is_as_due(row));
     }
-    let room = room(alloc, &row)?;
-    let mut source = MemSource::new(row.input, vec![in alloc; row.failing_read]?);
-    let mut sink = MemSink::new(room, vec![in alloc; row.failing_write]?);
-    let rules = RuleSet::new(Vec::new(alloc));
-    let outcome = hp16c(alloc, row.words.as_slice(), &mut source, &mut sink, &rules);
+    let mut source = MemSource::new(row.input.clone()?, vec![in alloc; row.failing_read]?);
+    let mut sink = MemSink::new(room(alloc, row)?, vec![in alloc; row.failing_write]?);
+    let outcome = command(alloc, row, &mut source, &mut sink);
+    let ended = end_of(alloc, outcome, sink.written())?;
     let next = next_byte(&mut source).unwrap_or(None);
-    Ok(
-        outcome.status.number() == row.status
-            && sink.written() == row.output.as_slice()
-            && next == row.next,
-    )
+    Ok(ended.is_as_due(row) && next == row.next)
 }
