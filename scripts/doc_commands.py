@@ -5,8 +5,9 @@ usage: scripts/doc_commands.py     at the top of the repository, where the progr
 
 In a fenced block a line that begins with `$ ` is a command, and the lines up to the next one are what it
 prints. In a line of prose "`COMMAND` prints `TEXT`" says the same. The commands of a file run in one new
-folder, in which `hp16c` and `examples` stand. The key files of `examples/` with displays run too. Exits 1
-where something else is printed.
+folder, in which `hp16c` and `examples` stand. The key files of `examples/` with displays run too, and the
+problems of the gallery are judged: their status, and the numbers of leaves, cuts and lines that a row tells.
+Exits 1 where something else is printed.
 """
 
 import re
@@ -50,8 +51,33 @@ def runs_as_said(folder, command, printed):
     return good
 
 
+STATUSES = {"equal": 0, "different": 1, "unknown": 2, "paths": 10}
+NUMBERS = {"without": 0, "a": 1, "one": 1, "two": 2, "ten": 10}
+PARTS = {"leaf": r"^leaf$", "leaves": r"^leaf$", "cut": r"^cut$", "cuts": r"^cut$", "lines": r"^\d+ "}
+
+
+def gallery(text):
+    """The problems of the gallery, each with its answer."""
+    return re.findall(r"^\| `([^`]*\.problem)` \|.*\| (.*) \|$", text, re.M)
+
+
+def is_judged_as_said(problem, answer):
+    with open(ROOT / "examples" / problem) as source:
+        run = subprocess.run([ROOT / "hp16c", "judge"], stdin=source, capture_output=True, text=True)
+    good = run.returncode == STATUSES[re.match(r"`?(\w+)", answer)[1]]
+    if run.returncode == 0:
+        certificate = run.stdout[run.stdout.index("certificate 1\n"):]
+        for number, part in re.findall(r"(\w+) (leaf|leaves|cuts?|lines)\b", answer):
+            told = int(number) if number.isdigit() else NUMBERS[number]
+            good &= told == len(re.findall(PARTS[part], certificate, re.M))
+    print(f"{'as said' if good else 'NOT as said'}: {problem}: {answer}")
+    return good
+
+
 def main():
     good = True
+    for problem, answer in gallery((ROOT / "docs" / "PAIRS.md").read_text()):
+        good &= is_judged_as_said(problem, answer)
     for keys in sorted((ROOT / "examples").glob("*.displays")):
         command = f"./hp16c keys < examples/{keys.stem}.keys"
         good &= runs_as_said(ROOT, command, keys.read_text())
