@@ -1,5 +1,5 @@
 -- The leaf of a walk's path.
-use Rattle.std.specs.Prelude.{◌≡◌, ◌≤◌, ◌^◌, true, length, Option, Some}
+use Rattle.std.specs.Prelude.{◌≡◌, ◌<◌, ◌^◌, true, length, Option, Some}
 use Rattle.jd_circuit.specs.declared.literals.Lit.{Lit}
 use Rattle.jd_circuit.specs.declared.literals.Lit.TheVariants.{Const}
 use Rattle.jd_trees.specs.declared.Kind.{Kind}
@@ -21,13 +21,13 @@ leaf_at w kind = record { path = w.path; inputs = w.net.inputs; gates = w.net.ga
 
 pub record IsWholeLeafOf (w : Walked) (kind : Kind) (l : Leaf) : Type 0 where
   pub is : l ≡ leaf_at w kind
-  pub few : length l.gates ≤ 2 ^ 30
+  pub few : length l.gates < 2 ^ 30
   pub faithful : IsFaithful w.problem l
 
--- a faithful leaf of a walk's path, with the gates alone that its guards and its difference stand on, 2^30 at most
+-- a faithful leaf of a walk's path, with the gates alone that its guards and its difference stand on, fewer than 2^30
 pub record IsLeafOf (w : Walked) (kind : Kind) (l : Leaf) : Type 0 where
   pub path : l.path ≡ w.path
   pub kind_is : l.kind ≡ kind
   pub cone : IsConeOf (leaf_at w kind) l
-  pub few : length l.gates ≤ 2 ^ 30
+  pub few : length l.gates < 2 ^ 30
   pub faithful : IsFaithful w.problem l

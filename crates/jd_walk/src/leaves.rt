@@ -1,5 +1,5 @@
 //! The leaf of a walk's path.
-ghost use Rattle.std.specs.Prelude.{◌≡◌, ◌≤◌, ◌^◌, ◌++◌, false, true, length, IfOk};
+ghost use Rattle.std.specs.Prelude.{◌≡◌, ◌<◌, ◌^◌, ◌++◌, false, true, length, IfOk};
 ghost use Rattle.jd_trees.specs.declared.Kind.TheVariants.{Whole};
 ghost use Rattle.jd_leaves.specs.Views.{leaf_of};
 ghost use Rattle.jd_walk.specs.Leaves.{diff_at, IsWholeLeafOf, IsLeafOf};
@@ -38,9 +38,9 @@ fn joined_guards(alloc: Global, assumed: &[Lit], guards: &[Lit]) -> Result<Guard
 /// Gates, where they are few enough to be numbered in a leaf.
 fn limited(gates: Gates) -> Result<Gates, NoMemory>
     ensures same { IfOk result (λ few. few ≡ gates) }
-    ensures bound { IfOk result (λ few. length few ≤ 2 ^ 30) }
+    ensures bound { IfOk result (λ few. length few < 2 ^ 30) }
 {
-    if gates.as_slice().len() > 1 << 30 {
+    if gates.as_slice().len() >= 1 << 30 {
         return Err(NoMemory);
     }
     Ok(gates)
@@ -65,7 +65,7 @@ impl<'r, W: Rewrite> Walk<'r, W> {
 
     /// The leaf of the walk's path, with the gates alone that its guards and its difference stand
     /// on. A cut has the difference true; a whole leaf has the literal that the last `next` said,
-    /// which was Done. More than 2^30 gates in the circuit are answered by NoMemory.
+    /// which was Done. 2^30 gates or more in the circuit are answered by NoMemory.
     pub fn leaf(&self, kind: Kind) -> Result<Leaf, NoMemory>
         requires unspent { self.now.spent ≡ false }
         requires whole { kind ≡ Whole → is_done self.now.next ≡ true }
