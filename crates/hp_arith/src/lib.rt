@@ -10,8 +10,6 @@ mod quotients;
 mod roots;
 mod signs;
 mod sums;
-#[cfg(test)]
-mod tests;
 
 pub use products::mul;
 pub use quotients::{div, rmd};

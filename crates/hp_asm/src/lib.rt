@@ -11,8 +11,6 @@ mod code_texts;
 mod faults;
 mod operations;
 mod routine;
-#[cfg(test)]
-mod tests;
 
 pub use assembly::{assemble, list, take_line};
 pub use code_texts::{codes, read_codes};

@@ -14,8 +14,6 @@ mod masks;
 mod rotations;
 mod shifts;
 mod single_bits;
-#[cfg(test)]
-mod tests;
 
 pub use counts::Error2;
 pub use logic::{and, count_ones, left_justify, not, or, xor};

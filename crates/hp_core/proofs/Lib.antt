@@ -4,6 +4,5 @@ pub mod Stepped
 pub mod Jumps
 pub mod Patterns
 pub mod Roots
-pub mod FromLine
 pub mod Fitted
 pub mod Entered

@@ -21,8 +21,6 @@ mod shifts;
 mod stack;
 mod step;
 mod step_all;
-#[cfg(test)]
-mod tests;
 mod tests_of_x;
 mod words;
 

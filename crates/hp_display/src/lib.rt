@@ -4,8 +4,6 @@
 
 mod digits;
 mod numbers;
-#[cfg(test)]
-mod tests;
 mod texts;
 mod views;
 

@@ -8,8 +8,6 @@
 mod division;
 mod product;
 mod signed;
-#[cfg(test)]
-mod tests;
 
 pub use division::{dbl_div, dbl_rmd};
 pub use product::dbl_mul;

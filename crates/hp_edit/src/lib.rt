@@ -3,8 +3,6 @@
 
 mod edits;
 mod lines;
-#[cfg(test)]
-mod tests;
 
 pub use edits::{Full, delete, insert};
 pub use lines::{before, goto_line, next};

@@ -14,8 +14,6 @@ mod memory_source;
 mod sinks;
 mod sources;
 mod standard;
-#[cfg(test)]
-mod tests;
 
 pub use failures::{Failed, NoMemory};
 pub use limited::{Bytes, ReadStop, Taken, read_limited};

@@ -6,8 +6,6 @@ mod commands;
 mod meanings;
 mod operands;
 mod prefixes;
-#[cfg(test)]
-mod tests;
 
 // A key, and the prefix that it is pressed with.
 pub use hp_model::Key;

@@ -5,8 +5,6 @@
 mod digits;
 mod lines;
 mod memory;
-#[cfg(test)]
-mod tests;
 
 // The sizes of memory.
 pub use hp_model::Extent;

@@ -10,8 +10,6 @@ mod navigation;
 mod pressed_operations;
 mod presses;
 mod runs;
-#[cfg(test)]
-mod tests;
 
 // The calculator: `new`, with so much memory; keys pressed one by one, or in turn.
 pub use calculators::Calculator;

@@ -8,8 +8,6 @@
 
 mod reading;
 mod stops;
-#[cfg(test)]
-mod tests;
 mod until;
 
 pub use reading::SourceLines;

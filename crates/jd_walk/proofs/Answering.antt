@@ -1,42 +1,19 @@
 -- Answers to the questions of a line, so far.
-use Rattle.std.proofs.Common.{◌≡◌, ◌⊎◌, inl, inr, ◌&&◌, ℕ, zero, suc, ◌≤◌, Bool, true, false, cond, List, [], ◌∷◌, ◌++◌, length, take, drop, Some, None, refl, sym, ap, ◌∙◌, subst, arith, length-append}
+use Rattle.std.proofs.Common.{◌≡◌, ◌&&◌, ℕ, zero, suc, ◌≤◌, Bool, true, false, cond, List, [], ◌∷◌, ◌++◌, length, take, drop, Some, None, refl, sym, ap, ◌∙◌, subst, arith, length-append}
 use Rattle.hp_model.specs.State.{Control, Data}
-use Rattle.hp_model.specs.Questions.{Question, answers_to, are_complete, holds, means_error, next_question}
+use Rattle.hp_model.specs.Questions.{Question, answers_to, holds, means_error, next_question}
+use Rattle.hp_control.specs.SoFar.{AreSoFar}
+use Rattle.hp_control.proofs.SoFar.{so_far_none, so_far_more}
 use Rattle.jd_circuit.specs.Net.{Net}
 use Rattle.jd_books.specs.Paths.{begins, line_questions}
 use Rattle.jd_symbolic.specs.declared.machine.SymMachine.{SymMachine}
 use Rattle.jd_symbolic.specs.Machine.{state_of}
 use Rattle.jd_walk.specs.declared.runs.Position.{Position}
-use Rattle.jd_walk.specs.NextLine.{AreSoFar, StandsAtLine}
+use Rattle.jd_walk.specs.NextLine.{StandsAtLine}
 use Rattle.jd_walk.specs.Spots.{IsPlaced}
 
 none-is-some : {A : Type 0} {a : A} → None ≡ Some a → ⊥
 none-is-some h = cc
-
--- where a line begins
-pub so-far-none : (qs : List Question) → AreSoFar qs []
-so-far-none [] = inl refl
-so-far-none (q ∷ qs) = inr (q, refl)
-
--- where nothing more is asked, they are all
-pub so-far-all : (qs : List Question) (given : List Bool) → AreSoFar qs given → next_question qs given ≡ None → are_complete qs given ≡ true
-so-far-all qs given (inl all) none = all
-so-far-all qs given (inr more) none = absurd (none-is-some (sym none ∙ more.1))
-
--- an answer more
-pub so-far-more : (qs : List Question) (given : List Bool) (q : Question) (a : Bool) → next_question qs given ≡ Some q → AreSoFar qs (given ++ a ∷ [])
-so-far-more [] given q a asked = absurd (none-is-some asked)
-so-far-more (first ∷ qs) [] q a asked = by_error (means_error first && a) (so-far-none qs)
-  where
-    by_error : (e : Bool) → AreSoFar qs [] → (are_complete (cond e [] qs) [] ≡ true) ⊎ ((r : Question) × (cond e None (next_question qs []) ≡ Some r))
-    by_error true more = inl refl
-    by_error false more = more
-so-far-more (first ∷ qs) (b ∷ given) q a asked = by_error (means_error first && b) asked (so-far-more qs given q a)
-  where
-    by_error : (e : Bool) → cond e None (next_question qs given) ≡ Some q → (next_question qs given ≡ Some q → AreSoFar qs (given ++ a ∷ []))
-        → (are_complete (cond e [] qs) (given ++ a ∷ []) ≡ true) ⊎ ((r : Question) × (cond e None (next_question qs (given ++ a ∷ [])) ≡ Some r))
-    by_error true o more = absurd (none-is-some o)
-    by_error false o more = more o
 
 -- data whose answers the given ones begin, while one more is asked
 pub answers-front : (qs : List Question) (given : List Bool) (q : Question) (c : Control) (d : Data) (rest : List Bool) → next_question qs given ≡ Some q
@@ -72,7 +49,7 @@ pub placed-at_line : (net : Net) (path : List Bool) (m : SymMachine) (left : ℕ
 placed-at_line net path m left h = record {
   machine = h;
   from = omega arith;
-  so_far = subst (AreSoFar (line_questions (state_of m))) (sym (drop-length path)) (so-far-none (line_questions (state_of m)));
+  so_far = subst (AreSoFar (line_questions (state_of m))) (sym (drop-length path)) (so_far_none (line_questions (state_of m)));
 }
 
 pub placed-answered : (net : Net) (path : List Bool) (at : Position) (q : Question) (a : Bool) → next_question (line_questions (state_of at.machine)) (drop at.from path) ≡ Some q
@@ -80,5 +57,5 @@ pub placed-answered : (net : Net) (path : List Bool) (at : Position) (q : Questi
 placed-answered net path at q a asked h = record {
   machine = h.machine;
   from = omega (arith, h.from, length-append path (a ∷ []));
-  so_far = subst (AreSoFar (line_questions (state_of at.machine))) (sym (drop-push at.from path a h.from)) (so-far-more (line_questions (state_of at.machine)) (drop at.from path) q a asked);
+  so_far = subst (AreSoFar (line_questions (state_of at.machine))) (sym (drop-push at.from path a h.from)) (so_far_more (line_questions (state_of at.machine)) (drop at.from path) q a asked);
 }

@@ -13,6 +13,7 @@ use Rattle.jd_content.specs.Meaning.{data_on}
 use Rattle.jd_content.proofs.Contents.{fits_grow}
 use Rattle.jd_symbolic.specs.declared.machine.SymMachine.{SymMachine}
 use Rattle.jd_symbolic.specs.Machine.{val_of, Stands}
+use Rattle.jd_symbolic.proofs.Standing.{stands_grown}
 use Rattle.jd_difference.specs.Ends.{IsOfRun}
 use Rattle.jd_walk.specs.declared.runs.Position.{Position}
 use Rattle.jd_walk.specs.declared.places.RunEnd.{RunEnd}
@@ -20,15 +21,6 @@ use Rattle.jd_walk.specs.NextLine.{nibbles_of}
 use Rattle.jd_walk.specs.Spots.{IsFor, IsAt, IsBegun, IsDoneHere, IsFirst, IsPlaced, IsRun, data_at}
 use Rattle.jd_walk.proofs.Answering.{placed-at_line}
 use Rattle.jd_walk.proofs.Turning.{at-line, data-grown, solves-start}
-
--- ---- a machine over more gates
-
-pub stands-grown : (old new : Net) (m : SymMachine) → Grows old new → Stands old m → Stands new m
-stands-grown old new m grows h = record {
-  fits = fits_grow old new m.control.size.bits m.content grows h.fits;
-  nibbles = h.nibbles;
-  bounds = h.bounds;
-}
 
 -- ---- where runs begin
 
@@ -51,7 +43,7 @@ first-run p net m begun = record {
 pub begun-grown : (p : Problem) (second : Bool) (old new : Net) (m : SymMachine) → IsFor p old → Grows old new → IsBegun p second old m → IsBegun p second new m
 begun-grown p second old new m n grows h = record {
   control = h.control;
-  machine = record { stands = stands-grown old new m grows h.machine.stands; line = h.machine.line };
+  machine = record { stands = stands_grown old new m grows h.machine.stands; line = h.machine.line };
   memory = h.memory;
   means = λ s ranged. data-grown p old new m.control.size.bits m.content s n.inputs grows h.machine.stands.fits ranged ∙ h.means s ranged;
 }
@@ -95,7 +87,7 @@ done-here p net path first end content l n wired ended over inside means =
 
 pub placed-grown : (old new : Net) (path : List Bool) (at : Position) → Grows old new → IsPlaced old path at → IsPlaced new path at
 placed-grown old new path at grows h = record {
-  machine = record { stands = stands-grown old new at.machine grows h.machine.stands; line = h.machine.line };
+  machine = record { stands = stands_grown old new at.machine grows h.machine.stands; line = h.machine.line };
   from = h.from;
   so_far = h.so_far;
 }

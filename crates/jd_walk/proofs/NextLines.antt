@@ -6,7 +6,6 @@ use Rattle.hp_model.specs.declared.End.TheVariants.{Return, Halt, Error}
 use Rattle.hp_model.specs.declared.Stop.{Stop}
 use Rattle.hp_model.specs.declared.Stop.TheVariants.{Go, Ended}
 use Rattle.hp_model.specs.Operations.{Operation}
-use Rattle.hp_model.specs.Operations as ops
 use Rattle.hp_model.specs.State.{Control, register_nibbles}
 use Rattle.hp_model.specs.Questions.{IsComplete, answers, are_complete}
 use Rattle.hp_model.specs.ControlStep.{control_step}
@@ -15,7 +14,6 @@ use Rattle.hp_model.specs.Run.{advanced, at_line_number, next_operation, restore
 use Rattle.hp_model.specs.Laws.{are_lines, Stands as StandsAt}
 use Rattle.hp_model.proofs.GoesOn.{control_step-goes}
 use Rattle.hp_model.proofs.Kept.{KeepsProgram, control_step-keeps}
-use Rattle.hp_control.specs.Controls.{IsFromALine}
 use Rattle.jd_circuit.specs.declared.literals.Lit.{Lit}
 use Rattle.jd_circuit.specs.Net.{Net, Solves}
 use Rattle.jd_questions.specs.Questions as literals
@@ -73,10 +71,6 @@ pub complete-at_line : (m : SymMachine) (line : ℕ) (op : Operation) (given : L
 complete-at_line m line op given following next all =
     subst (λ o. IsComplete (state_of (at_line line m)) o given) (sym next)
     (subst (λ c. IsComplete c (next_operation (state_of m)) given) (sym (advanced-is m line following)) all)
-
-pub from-a-line : (op : Operation) (line : ℕ) → 1 ≤ line → IsFromALine op line
-from-a-line (ops.gosub target) line h = h
-from-a-line _ line h = tt
 
 restored-is : (line : ℕ) (stop : Stop) (m : SymMachine) → restored line (state_of m, stop) ≡ (state_of (restored_at line stop m), stop)
 restored-is line Go m = refl

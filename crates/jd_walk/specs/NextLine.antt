@@ -1,10 +1,10 @@
 -- What the next line of a symbolic machine asks and does, for values of the variables.
-use Rattle.std.specs.Prelude.{◌≡◌, ℕ, ◌≤◌, ◌⊎◌, Bool, true, List, ◌++◌, Option, Some, None}
+use Rattle.std.specs.Prelude.{◌≡◌, ℕ, ◌≤◌, Bool, true, List, ◌++◌, Option, Some, None}
 use Rattle.hp_model.specs.declared.End.TheVariants.{Error}
 use Rattle.hp_model.specs.declared.Stop.{Stop}
 use Rattle.hp_model.specs.declared.Stop.TheVariants.{Ended}
 use Rattle.hp_model.specs.State.{memory_bytes, register_nibbles}
-use Rattle.hp_model.specs.Questions.{Question, are_complete, holds, next_question}
+use Rattle.hp_model.specs.Questions.{Question, holds, next_question}
 use Rattle.hp_model.specs.Run.{advanced, control_done, line_answers}
 use Rattle.jd_circuit.specs.declared.literals.Lit.{Lit}
 use Rattle.jd_circuit.specs.Meaning.{lit_value}
@@ -31,10 +31,6 @@ restored_at line stop m = m
 pub record StandsAtLine (net : Net) (m : SymMachine) : Type 0 where
   pub stands : Stands net m
   pub line : 1 ≤ m.control.line
-
--- answers to the questions of a line so far: all of them, or one more is asked
-abbrev pub AreSoFar : List Question → List Bool → Type 0
-AreSoFar qs given = (are_complete qs given ≡ true) ⊎ ((q : Question) × (next_question qs given ≡ Some q))
 
 -- a literal for the next question of the next line
 pub record IsLineAsk (net : Net) (m : SymMachine) (given : List Bool) (l : Lit) : Type 0 where

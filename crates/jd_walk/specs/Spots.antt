@@ -2,6 +2,7 @@
 use Rattle.std.specs.Prelude.{◌≡◌, ◌⊎◌, ◌&&◌, ℕ, ◌<◌, ◌≤◌, suc, not, nat_le, if◌then◌else◌, Bool, true, false, List, [], ◌∷◌, ◌++◌, length, map, take, drop, is_some, Option, Some, None, All, AllPairs}
 use Rattle.hp_model.specs.State.{Control, Data}
 use Rattle.hp_model.specs.Questions.{Question, next_question}
+use Rattle.hp_control.specs.SoFar.{AreSoFar}
 use Rattle.jd_circuit.specs.declared.literals.Lit.{Lit}
 use Rattle.jd_circuit.specs.Net.{Net, IsLit, Grows, variables, eval}
 use Rattle.jd_model.specs.Problems.{Problem, free_bits, bits, nibble_count}
@@ -23,7 +24,7 @@ use Rattle.jd_walk.specs.declared.places.Next.TheVariants.{Ask as AskNext, Done 
 use Rattle.jd_walk.specs.declared.places.RunEnd.{RunEnd}
 use Rattle.jd_walk.specs.declared.places.FirstEnd.{FirstEnd}
 use Rattle.jd_walk.specs.declared.places.Saved.{Saved}
-use Rattle.jd_walk.specs.NextLine.{AreSoFar, StandsAtLine, nibbles_of}
+use Rattle.jd_walk.specs.NextLine.{StandsAtLine, nibbles_of}
 use Rattle.jd_walk.specs.Walked.{is_done}
 
 -- a circuit whose inputs are the free bits of a start

@@ -35,7 +35,7 @@ fn answer(told: &[bool], place: usize, asked: Lit) -> Result<bool, Failure> {
 }
 
 /// The answers to all that an operation asks.
-#[tactic(auto, using(crate::proofs::Asking::stands_grown))]
+#[tactic(auto, using(jd_symbolic::proofs::Standing::stands_grown))]
 pub fn answers<W: Rewrite>(
     machine: &SymMachine,
     c: &mut Circuit<'_, W>,
@@ -88,7 +88,7 @@ fn set_line(machine: &mut SymMachine, line: u16)
 }
 
 /// Does the next line. An error leaves its number.
-#[tactic(auto, using(crate::proofs::Asking::stands_grown, crate::proofs::Asking::from_a_line))]
+#[tactic(auto, using(jd_symbolic::proofs::Standing::stands_grown, hp_control::proofs::FromLine::from_line))]
 pub fn do_line<W: Rewrite>(
     machine: &mut SymMachine,
     c: &mut Circuit<'_, W>,

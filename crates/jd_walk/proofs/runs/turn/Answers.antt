@@ -2,20 +2,22 @@ use Rattle.std.proofs.Common.{◌≡◌, ◌-◌, true, drop, length, sym, take,
 use Rattle.hp_model.specs.Questions.{are_complete}
 use Rattle.jd_books.specs.Paths.{line_questions}
 use Rattle.jd_symbolic.specs.Machine.{state_of}
+use Rattle.hp_control.proofs.SoFar.{so_far_all}
+use Rattle.jd_symbolic.proofs.Standing.{stands_grown}
 use Rattle.jd_walk.specs.NextLine.{LineSteps, StandsAtLine}
 use Rattle.jd_walk.specs.declared.runs.Reach.TheVariants.{Ask}
 use Rattle.jd_walk.specs.Spots.{IsPlaced, IsReached}
-use Rattle.jd_walk.proofs.Answering.{placed-at_line, so-far-all}
+use Rattle.jd_walk.proofs.Answering.{placed-at_line}
 use Rattle.jd_walk.proofs.NextLines.{memory-kept, stands-on}
 use Rattle.jd_walk.proofs.Turning.{asked-is, reached-ask, reached-end, reached-late, rest-is, stepped-is, turned-go, with-machine}
-use Rattle.jd_walk.proofs.Ends.{placed-grown, stands-grown}
+use Rattle.jd_walk.proofs.Ends.{placed-grown}
 use Rattle.jd_walk.proofs.runs.turn.Goals as goal
 
 pub line_step-requires-clause-stands : goal.line_step-requires-clause-stands
 line_step-requires-clause-stands g c =
     let at = c.args.at.now in
     subst (StandsAtLine c.line_asks.new.c) (sym c.in_ok-l.ensures.machine)
-    (record { stands = stands-grown c.args.c.now c.line_asks.new.c at.machine c.in_ok-l.ensures.grows c.requires.machine.stands; line = c.requires.machine.line })
+    (record { stands = stands_grown c.args.c.now c.line_asks.new.c at.machine c.in_ok-l.ensures.grows c.requires.machine.stands; line = c.requires.machine.line })
 
 pub line_step-requires-clause-complete : goal.line_step-requires-clause-complete
 line_step-requires-clause-complete g c =
@@ -23,7 +25,7 @@ line_step-requires-clause-complete g c =
     let asks = asked-is c.line_asks.new.c at.machine at.from c.args.path.now c.in_ok-l.field-0 c.in_ok-l.ensures.asks in
     subst (λ m. are_complete (line_questions (state_of m)) (take (length c.args.path.now - at.from) (drop at.from c.args.path.now)) ≡ true) (sym c.in_ok-l.ensures.machine)
     (subst (λ given. are_complete (line_questions (state_of at.machine)) given ≡ true) (sym (rest-is at.from c.args.path.now))
-    (so-far-all (line_questions (state_of at.machine)) (drop at.from c.args.path.now) c.requires.so_far (asks.none c.in_default.is)))
+    (so_far_all (line_questions (state_of at.machine)) (drop at.from c.args.path.now) c.requires.so_far (asks.none c.in_default.is)))
 
 pub returns-then-at-eq0-clause-turned : goal.returns-then-at-eq0-clause-turned
 returns-then-at-eq0-clause-turned g c = λ p second n h. reached-late p second c.args.c.now c.args.path.now c.args.at.now (omega (arith, c.if-at-eq0.true)) h

@@ -4,7 +4,8 @@ use Rattle.hp_model.specs.Questions.{questions, next_question}
 use Rattle.hp_ops.specs.Meaning.{operation}
 use Rattle.jd_symbolic.specs.Machine.{Asks, state_of}
 use Rattle.jd_circuit.proofs.Values.{grows_trans}
-use Rattle.try_symbolic.proofs.Asking.{AreSoFar, so_far_none, so_far_more}
+use Rattle.hp_control.specs.SoFar.{AreSoFar}
+use Rattle.hp_control.proofs.SoFar.{so_far_none, so_far_more}
 use Rattle.try_symbolic.proofs.literals.answers.Goals as goal
 
 pub loop-place-init : goal.loop-place-init

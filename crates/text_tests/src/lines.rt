@@ -1,6 +1,6 @@
 //! Lines as they come from a source in memory.
-use crate::{LineStop, SourceLines};
 use hp_io::MemSource;
+use jd_lines::{LineStop, SourceLines};
 use std::alloc::Global;
 use std::test::Fail;
 

@@ -1,10 +1,10 @@
-// Worked rows of every call.
+//! Rows of products in two words, and of their division.
 ghost use Rattle.std.specs.Prelude.{◌≡◌};
 ghost use Rattle.hp_words.specs.Alike.{AreAlike};
 
-use crate::{dbl_div, dbl_mul, dbl_rmd};
 use Call::{Div, Rmd};
 use Mode::{Ones, Twos, Unsigned};
+use hp_double::{dbl_div, dbl_mul, dbl_rmd};
 use hp_words::{Answer, Error0, Mode, Word, WordSize};
 
 #[derive(Clone, Copy, Debug)]

@@ -1,5 +1,5 @@
-// Lines that come and go.
-use crate::{before, delete, goto_line, insert, next};
+//! Lines of a program that come and go.
+use hp_edit::{before, delete, goto_line, insert, next};
 use hp_nibbles::{Extent, Memory};
 use hp_ops::{Arithmetic, Op};
 use std::test::Fail;

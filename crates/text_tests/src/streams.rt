@@ -1,5 +1,5 @@
-//! What no clause says: that the calls succeed where memory is there, and what std's streams do.
-use crate::{
+//! What no clause says of streams: that calls succeed where memory is there, and what those of std do.
+use hp_io::{
     Failed, MemSink, MemSource, ReadStop, Sink, Source, StdSink, StdSource, Taken, next_byte,
     read_limited, write_whole,
 };

@@ -1,5 +1,5 @@
 //! Texts and codes of routines, and the first bad line.
-use crate::{AsmCause, AsmFault, CodeFault, assemble, codes, list, read_codes};
+use hp_asm::{AsmCause, AsmFault, CodeFault, assemble, codes, list, read_codes};
 use std::test::Fail;
 
 #[test]

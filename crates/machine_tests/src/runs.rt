@@ -1,8 +1,8 @@
-// Keys pressed on a calculator, and a run.
-use crate::{Calculator, RunEnd, press_all, run};
+//! Keys pressed on a calculator, and a run.
 use hp_core::{End, Machine};
 use hp_keys::{Key, View};
 use hp_nibbles::Extent;
+use hp_run::{Calculator, RunEnd, press_all, run};
 
 #[test]
 fn keys_add_numbers(rt: HostRuntime) {

@@ -1,14 +1,14 @@
-// Worked rows of every call.
+//! Rows of shifts, rotations, masks and single bits.
 ghost use Rattle.std.specs.Prelude.{◌≡◌};
 ghost use Rattle.hp_words.specs.Alike.{AreAlike};
 
-use crate::{
-    Error2, and, asr, clear_bit, count_ones, left_justify, mask_left, mask_right, not, or, rl, rlc,
-    rlcn, rln, rr, rrc, rrcn, rrn, set_bit, sl, sr, test_bit, xor,
-};
 use Mode::{Ones, Twos, Unsigned};
 use Move::{Asr, Rl, Rlc, Rlcn, Rln, Rr, Rrc, Rrcn, Rrn, Sl, Sr};
 use Of::{And, ClearBit, CountOnes, MaskLeft, MaskRight, Not, Or, SetBit, TestBit, Xor};
+use hp_bits::{
+    Error2, and, asr, clear_bit, count_ones, left_justify, mask_left, mask_right, not, or, rl, rlc,
+    rlcn, rln, rr, rrc, rrcn, rrn, set_bit, sl, sr, test_bit, xor,
+};
 use hp_words::{Answer, Mode, Word, WordSize};
 
 #[derive(Clone, Copy, Debug)]

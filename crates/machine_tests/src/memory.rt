@@ -1,5 +1,5 @@
-// Worked examples.
-use crate::{Extent, Memory};
+//! Registers of several widths in memory, beside a program.
+use hp_nibbles::{Extent, Memory};
 use hp_words::WordSize;
 
 #[test]

@@ -1,5 +1,5 @@
-// Keys as a teacher would press them.
-use crate::{Command, Key, Prefix, Pressed, Shift, press_key};
+//! Keys as a teacher would press them.
+use hp_keys::{Command, Key, Prefix, Pressed, Shift, press_key};
 use hp_ops::{Jump, Op};
 
 #[test]

@@ -1,10 +1,10 @@
-// Worked rows of each call, one table for all.
+//! Rows of arithmetic, one table for all calls.
 ghost use Rattle.std.specs.Prelude.{◌≡◌};
 ghost use Rattle.hp_words.specs.Alike.{AreAlike};
 
-use crate::{abs, add, chs, div, mul, rmd, root, sub};
 use Call::{Abs, Add, Chs, Div, Mul, Rmd, Root, Sub};
 use Mode::{Ones, Twos, Unsigned};
+use hp_arith::{abs, add, chs, div, mul, rmd, root, sub};
 use hp_words::{Answer, Error0, Mode, Word, WordSize};
 
 #[derive(Clone, Copy, Debug)]

@@ -1,10 +1,6 @@
-// Worked operations, by their codes.
-ghost use Rattle.std.specs.Prelude.{◌≡◌};
-
-use crate::machine::Machine;
-use crate::words::masked;
+//! Operations done to a machine, by their codes.
 use Mode::{Ones, Twos, Unsigned};
-use hp_model::{End, Stop};
+use hp_core::{End, Machine, Stop};
 use hp_nibbles::{Extent, Memory};
 use hp_ops::Op;
 use hp_words::{Base, Content, Mode, WordSize};
@@ -20,10 +16,11 @@ fn done(machine: &mut Machine, code: u8) -> Option<Stop> {
 
 /// A machine of a size and a mode, with these in Y, Z and X.
 fn machine(size: WordSize, mode: Mode, y: u64, z: u64, x: u64) -> Machine {
+    let most = size.mask();
     let content = Content {
-        x: masked(size, x),
-        y: masked(size, y),
-        z: masked(size, z),
+        x: x.min(most),
+        y: y.min(most),
+        z: z.min(most),
         t: 0,
         l: 0,
         i: 0,

@@ -1,8 +1,9 @@
-// The displays of a new machine.
-use crate::{display, mem_line, status};
+//! The displays of a new machine.
 use hp_core::Machine;
+use hp_display::{display, mem_line, status};
 use hp_keys::{Shift, View};
-use hp_model::{Base, Extent};
+use hp_nibbles::Extent;
+use hp_words::Base;
 
 #[test]
 fn a_new_machine(rt: HostRuntime) {
