@@ -140,7 +140,7 @@ struct Row {
     places: u128,
 }
 
-const ROWS: [Row; 16] = [
+const ROWS: [Row; 17] = [
     Row {
         size: 1,
         x: 1,
@@ -175,6 +175,12 @@ const ROWS: [Row; 16] = [
         size: 4,
         x: 5,
         y: 3,
+        places: 1,
+    },
+    Row {
+        size: 4,
+        x: 3,
+        y: 5,
         places: 1,
     },
     Row {

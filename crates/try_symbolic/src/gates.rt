@@ -97,10 +97,18 @@ fn of_run(alloc: Global, problem: &Problem) -> Result<usize, Failure> {
     Ok(c.mark().gates)
 }
 
-/// The gates of ten times X at a size.
-fn of_ten_times(alloc: Global, bits: u8) -> Result<usize, Failure> {
-    let problem = free_problem(alloc, bits, 0, "SL\nENTER\nSL\nSL\n+")?;
+/// The gates of a routine of unsigned words of 64 bits.
+fn of_lines(alloc: Global, lines: &str) -> Result<usize, Failure> {
+    let problem = free_problem(alloc, 64, 0, lines)?;
     of_run(alloc, &problem)
+}
+
+/// Prints the gates of a routine that makes ten times X.
+fn print_ten_times(rt: &impl Print, alloc: Global, way: &str, lines: &str) -> io::Result<()> {
+    match of_lines(alloc, lines) {
+        Ok(gates) => println!(rt; "ten times X at 64 bits by {way} {gates}"),
+        Err(failure) => println!(rt; "{failure:?}"),
+    }
 }
 
 /// Prints the names of the operations that add no gate.
@@ -128,8 +136,6 @@ pub fn print(rt: &impl Print, alloc: Global) -> io::Result<()> {
         }
     }
     print_names(rt, names.as_str())?;
-    match of_ten_times(alloc, 64) {
-        Ok(gates) => println!(rt; "ten times X at 64 bits {gates}"),
-        Err(failure) => println!(rt; "{failure:?}"),
-    }
+    print_ten_times(rt, alloc, "shifts and a sum", "SL\nENTER\nSL\nSL\n+")?;
+    print_ten_times(rt, alloc, "a digit and a product", "A\n*")
 }

@@ -1,5 +1,5 @@
 //! Each operation at seven sizes and in three modes, each time from four starts. Of operations that
-//! differ by a number alone one is tried so, and the others at 16 bits.
+//! differ by a number alone, but for registers, one is tried so, and the others at 16 bits.
 use crate::cases::Case;
 use crate::comparisons::Difference;
 use crate::failures::Failure;
@@ -102,11 +102,20 @@ pub fn is_like_another(op: Op) -> bool {
     }
 }
 
+/// Whether an operation is tried at a size. A register is there or not by its number and the size, so
+/// those are tried at each.
+fn is_tried_at(op: Op, bits: u8) -> bool {
+    match op {
+        Op::Registers(_) => true,
+        _ => bits == 16 || !is_like_another(op),
+    }
+}
+
 /// Tries an operation, and prints how many of its cases are as stepped.
 fn try_operation(rt: &impl Print, alloc: Global, op: Op) -> io::Result<()> {
     let mut tally = Tally { good: 0, cases: 0 };
     for bits in SIZES {
-        if bits == 16 || !is_like_another(op) {
+        if is_tried_at(op, bits) {
             if let Some(size) = WordSize::new(bits) {
                 try_size(rt, alloc, op, size, &mut tally)?;
             }
