@@ -10,7 +10,7 @@ use Rattle.hp16c_commands.specs.Commands.{command_of}
 use Rattle.hp16c_commands.specs.Keys.{keys_status, keys_text}
 use Rattle.hp16c_commands.specs.Lrat.{lrat_answer}
 use Rattle.hp16c_commands.specs.Paths.{path_text}
-use Rattle.hp16c_commands.specs.WholeInputs.{can_end}
+use Rattle.hp16c_commands.specs.WholeInputs.{can_end, limit_of}
 
 -- words
 keys_alone : command_of (codes "keys" ∷ []) ≡ Some Keys
@@ -59,6 +59,10 @@ nothing_refuted = refl
 
 past_the_limit : too_long ≡ told Limit (codes "limit\n")
 past_the_limit = refl
+
+-- limits
+bytes_of_lrat : limit_of inputs.Lrat ≡ 268_435_456
+bytes_of_lrat = refl
 
 -- statuses
 unknown_of_judge : can_end inputs.Judge Unknown ≡ true
