@@ -152,6 +152,7 @@ impl Memory {
         ensures value { result ≡ slice_index self.now.program (i - 1) }
         ensures code { result < 225 }
     {
+        // For the invariant, which says that the codes of lines are below 225.
         let _ = &self.bytes;
         self.bytes[end_of(self.extent) - i as usize]
     }

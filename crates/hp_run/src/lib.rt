@@ -1,5 +1,5 @@
 //! The calculator under its keys: runs of a program, and what each key does in run mode and in
-//! program mode. Control stays in hp_core's hands; edits are hp_edit's, and prefixes hp_keys'.
+//! program mode. Operations are hp_core's; edits are hp_edit's, and prefixes hp_keys'.
 #![tactic(auto)]
 
 mod calculators;

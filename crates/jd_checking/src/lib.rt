@@ -1,5 +1,6 @@
-//! The check of a source that holds a problem and then a certificate, line by line: neither the text
-//! nor the tree of the certificate is kept, so the memory that is taken doesn't grow with the text.
+//! The check of a source that holds a problem and then a certificate, line by line. Neither the text
+//! nor the tree of the certificate is kept: memory goes to the leaves of the walk, to the clauses of
+//! the leaf that is open, and to the longest line.
 //!
 //! - `check_source` answers `SourceChecked`, or why no further line is had.
 #![tactic(auto)]

@@ -78,10 +78,12 @@ pub fn difference<W: Rewrite>(
     ensures more { length c.new.gates ≤ length c.old.gates + 2 ^ 14 }
 {
     if !are_alike(first, second) {
+        // `mark` tells that the circuit is wired.
         let _ = c.mark();
         return Ok(Lit::Const(true));
     }
     let same = same_parts(c, problem, first_content, second_content)?;
+    // `mark` tells that the circuit is wired.
     let _ = c.mark();
     Ok(same.opposite())
 }

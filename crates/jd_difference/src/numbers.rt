@@ -66,6 +66,7 @@ fn same_at<W: Rewrite>(
     ensures more { length c.new.gates ≤ length c.old.gates + 128 }
 {
     if !observed.contains(part_at(place)) {
+        // `mark` tells that the circuit is wired.
         let _ = c.mark();
         return Ok(Lit::Const(true));
     }
@@ -75,7 +76,7 @@ fn same_at<W: Rewrite>(
     Ok(equal)
 }
 
-/// How many flags there are.
+/// How many flags there are. It is called for this fact alone.
 fn flag_count(flags: &[Lit; 6]) -> usize
     ensures count { length flags.now ≡ result }
     ensures six { result ≡ 6 }

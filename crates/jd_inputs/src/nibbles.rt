@@ -40,6 +40,7 @@ fn zero_items(alloc: Global, count: u32) -> Result<Vec<Lit>, NoMemory>
 {
     let mut items = Vec::new(alloc);
     for i in 0..count {
+        // The invariant counts by `i`.
         let _ = i;
         push(&mut items, Lit::Const(false))?;
     }

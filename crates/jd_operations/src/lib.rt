@@ -1,5 +1,6 @@
 //! What operations do to contents of literals. Each group computes an answer by a circuit of
-//! `jd_rows`, `jd_products` or `jd_places` and puts it where the operation puts it; `change` does the operation of any group.
+//! `jd_rows`, `jd_products`, `jd_places` or `jd_comparisons` and puts it where the operation puts it;
+//! `change` does the operation of any group.
 #![tactic(auto)]
 
 mod arithmetic;
