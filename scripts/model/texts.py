@@ -1,4 +1,4 @@
-"""Problems and starts as text, in Python: read by the description of the formats alone, up to the first bad line."""
+"""Problems and starts as text, in Python: read by the tables of docs/PROBLEMS.md alone, up to the first bad line."""
 import re
 from dataclasses import dataclass, field
 

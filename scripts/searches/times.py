@@ -23,7 +23,7 @@ RUNS = 5
 
 
 def cnfs():
-    for holes in (5, 6, 7):
+    for holes in (5, 6, 7, 8):
         yield f"pigeonhole {holes}", pigeonhole(holes)
     for variables, seeds in ((50, 4), (100, 4), (150, 2)):
         for seed in range(seeds):
