@@ -1,7 +1,6 @@
 pub mod Members
 pub mod Closure
 pub mod Models
-pub mod Bound
 pub mod Explained
 pub mod TrailSteps
 pub mod ListSteps

@@ -1,5 +1,5 @@
 -- What holds of the trail before each decision of a search.
-use Rattle.std.specs.Prelude.{◌≡◌, ◌⊎◌, ℕ, ◌<◌, ℤ, pos, neg_ℤ, nat_abs, true, false, List, [], ◌∷◌, map}
+use Rattle.std.specs.Prelude.{◌≡◌, ◌⊎◌, ℕ, ℤ, neg_ℤ, true, false, List, [], ◌∷◌, map}
 use Rattle.std.specs.List.{All}
 use Rattle.jd_logic.specs.declared.Line.{Line}
 use Rattle.jd_logic.specs.declared.Line.TheVariants.{Derive, Delete}
@@ -25,7 +25,6 @@ pub record IsLevel (clauses lines : List (List ℤ)) (earlier trues : List ℤ) 
   pub earlier_true : IsWithin earlier trues
   pub no_value : has_value trues decision ≡ false
   pub lines_before : All (IsLineBefore trues decision) lines
-  pub below : (v : ℕ) → 0 < v → v < nat_abs decision → has_value trues (pos v) ≡ true
 
 -- the clauses of derivations, and the state after them
 abbrev pub clauses_of : List Line → List (List ℤ)

@@ -1,5 +1,4 @@
 pub mod Quiet
-pub mod Room
 pub mod Hints
 pub mod Trails
 pub mod Reasons

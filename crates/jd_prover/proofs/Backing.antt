@@ -1,12 +1,11 @@
 -- A search after the last decision was taken back, its negation being true by the line of a conflict.
-use Rattle.std.proofs.Common.{◌≡◌, ◌≢◌, ◌⊎◌, inl, inr, ℕ, zero, suc, ◌+◌, ◌-◌, ◌<◌, ◌≤◌, ◌^◌, ℤ, pos, negsuc, true, false, List, [], ◌∷◌, ◌++◌, take, length, get_or, refl, sym, ◌∙◌, ap, subst, arith, Some}
-use Rattle.std.specs.Prelude.{Vec, neg_ℤ, nat_abs}
+use Rattle.std.proofs.Common.{◌≡◌, ◌≢◌, ◌⊎◌, inl, inr, ℕ, zero, suc, ◌+◌, ◌-◌, ◌<◌, ◌≤◌, ◌^◌, ℤ, pos, true, false, List, [], ◌∷◌, ◌++◌, take, length, get_or, refl, sym, ◌∙◌, ap, subst, arith, Some}
+use Rattle.std.specs.Prelude.{Vec, neg_ℤ}
 use Rattle.std.specs.List.{All}
 use Rattle.std.specs.declared.alloc.Global.{Global}
 use Rattle.std.proofs.Math.IntN.{neg_ℤ-neg_ℤ}
 use Rattle.std.proofs.Math.Seq.{take-take}
-use Rattle.std.proofs.lemmas.Bool.{cases_lt}
-use Rattle.std.proofs.lemmas.List.{length_push, get_or_append_left, take-append-le, take_more}
+use Rattle.std.proofs.lemmas.List.{length_push, get_or_append_left, take-append-le, take_all, take_more}
 use Rattle.std.proofs.lemmas.List.Elements.{All-weaker, All-push}
 use Rattle.jd_logic.specs.declared.Line.{Line}
 use Rattle.jd_logic.specs.declared.Line.TheVariants.{Derive}
@@ -21,17 +20,17 @@ use Rattle.jd_propagate.specs.Quiet.{IsIn, IsWithin, HasNoOpposites}
 use Rattle.jd_propagate.specs.Levels.{negated, clauses_of, IsTrueLine, IsLineBefore}
 use Rattle.jd_propagate.specs.Passing.{literal_at, AreSettled}
 use Rattle.jd_propagate.specs.Reasons.{AreReasons}
-use Rattle.jd_propagate.specs.Room.{room}
-use Rattle.jd_propagate.proofs.Bound.{room-refuted}
 use Rattle.jd_propagate.proofs.Extensions.{take-beyond, within-take}
 use Rattle.jd_propagate.proofs.Keeping.{reasons-more}
 use Rattle.jd_propagate.proofs.Lines.{negated-has, line_is_new, line_before, line_true, own_line_true}
-use Rattle.jd_propagate.proofs.Members.{false_is_not_true, not_true, has-here, has-there, has-cases, has-append_left, has-append_right, has-push_cases, or_left, or_right}
+use Rattle.jd_propagate.proofs.Members.{false_is_not_true, not_true, has-here, has-there, has-cases, has-append_left, has-append_right, has-push_cases, or_cases, or_left, or_right}
 use Rattle.jd_propagate.proofs.TrailSteps.{value-left}
 use Rattle.jd_propagate.proofs.Watching.{has-at, settled-grows}
 use Rattle.jd_prover.specs.declared.solver.Solver.{Solver}
+use Rattle.jd_prover.specs.Room.{room}
 use Rattle.jd_prover.specs.Solving.{store_of, AreLogged, IsRight}
 use Rattle.jd_prover.specs.Searching.{IsBefore, AreLevels, IsSearching}
+use Rattle.jd_prover.proofs.Bound.{KeepsValues, room-refuted}
 use Rattle.jd_prover.proofs.Cutting.{taken-length, taken-at, reasons-cut}
 use Rattle.jd_prover.proofs.Logged.{lines-push, all-many, clauses-more, clauses_of-push}
 use Rattle.jd_prover.proofs.Running.{value-grows}
@@ -52,13 +51,30 @@ value-shrinks xs ys l w none = not_true (has_value xs l) (λ e. false_is_not_tru
 no_opposites-front : (trail : List ℤ) (n : ℕ) → HasNoOpposites trail → HasNoOpposites (take n trail)
 no_opposites-front trail n h = λ l is. not_true (has (take n trail) (neg_ℤ l)) (λ e. false_is_not_true (has trail (neg_ℤ l)) (h l (within-take trail n l is)) (within-take trail n (neg_ℤ l) e))
 
-abs-valued : (d : ℤ) (trail : List ℤ) → IsIn trail (neg_ℤ d) → has_value trail (pos (nat_abs d)) ≡ true
-abs-valued (pos zero) trail e = or_left (has trail (pos 0)) (has trail (pos 0)) e
-abs-valued (pos (suc n)) trail e = or_right (has trail (pos (suc n))) (has trail (neg_ℤ (pos (suc n)))) e
-abs-valued (negsuc n) trail e = or_left (has trail (pos (suc n))) (has trail (neg_ℤ (pos (suc n)))) e
+-- a literal gives a value to what its negation gives one
+value-turned : (xs : List ℤ) (d : ℤ) → KeepsValues (xs ++ d ∷ []) (xs ++ neg_ℤ d ∷ [])
+value-turned xs d l e = elim (or_cases (has (xs ++ d ∷ []) l) (has (xs ++ d ∷ []) (neg_ℤ l)) e) [
+  | inl a ↦ by l (has-push_cases xs d l a)
+  | inr b ↦ back (has-push_cases xs d (neg_ℤ l) b)
+]
+  where
+    last : IsIn (xs ++ neg_ℤ d ∷ []) (neg_ℤ d)
+    last = has-append_right xs (neg_ℤ d ∷ []) (neg_ℤ d) (has-here (neg_ℤ d) [])
 
-module _ (clauses : List (List ℤ)) (inputs cursor last id : ℕ) (hints : List ℤ) (s : Solver) (trail : List ℤ) (reasons : Vec Reason Global) (decisions : Vec ℤ Global) (limits : Vec ℕ Global) (lines : Vec Line Global)
-    (h : IsSearching clauses inputs cursor s) (opposites : HasNoOpposites s.trail) (many : length s.decisions.items ≡ last + 1)
+    by : (l : ℤ) → IsIn xs l ⊎ (d ≡ l) → has_value (xs ++ neg_ℤ d ∷ []) l ≡ true
+    by l (inl a) = or_left (has (xs ++ neg_ℤ d ∷ []) l) (has (xs ++ neg_ℤ d ∷ []) (neg_ℤ l)) (has-append_left xs (neg_ℤ d ∷ []) l a)
+    by l (inr same) =
+        let P : ℤ → Type 0 = λ z. IsIn (xs ++ neg_ℤ d ∷ []) z in
+        or_right (has (xs ++ neg_ℤ d ∷ []) l) (has (xs ++ neg_ℤ d ∷ []) (neg_ℤ l)) (subst P (ap neg_ℤ same) last)
+
+    back : IsIn xs (neg_ℤ l) ⊎ (d ≡ neg_ℤ l) → has_value (xs ++ neg_ℤ d ∷ []) l ≡ true
+    back (inl a) = or_right (has (xs ++ neg_ℤ d ∷ []) l) (has (xs ++ neg_ℤ d ∷ []) (neg_ℤ l)) (has-append_left xs (neg_ℤ d ∷ []) (neg_ℤ l) a)
+    back (inr same) =
+        let P : ℤ → Type 0 = λ z. IsIn (xs ++ neg_ℤ d ∷ []) z in
+        or_left (has (xs ++ neg_ℤ d ∷ []) l) (has (xs ++ neg_ℤ d ∷ []) (neg_ℤ l)) (subst P (ap neg_ℤ same ∙ neg_ℤ-neg_ℤ l) last)
+
+module _ (clauses : List (List ℤ)) (inputs last id : ℕ) (hints : List ℤ) (s : Solver) (trail : List ℤ) (reasons : Vec Reason Global) (decisions : Vec ℤ Global) (limits : Vec ℕ Global) (lines : Vec Line Global)
+    (h : IsSearching clauses inputs s) (opposites : HasNoOpposites s.trail) (many : length s.decisions.items ≡ last + 1)
     (right : IsRight clauses s.lines.items (negated s.decisions.items) hints) (ranges : IsDerivation id (negated s.decisions.items) hints) (next : id ≡ length clauses + length s.lines.items + 1) (small : id < 2 ^ 62)
     (et : trail ≡ take (get_or s.limits.items last 0) s.trail ++ neg_ℤ (literal_at s.decisions.items last) ∷ [])
     (er : reasons.items ≡ take (get_or s.limits.items last 0) s.reasons.items ++ reason.Line id ∷ [])
@@ -81,10 +97,6 @@ module _ (clauses : List (List ℤ)) (inputs cursor last id : ℕ) (hints : List
 
   grows : IsWithin (take (get_or s.limits.items last 0) s.trail) trail
   grows l is = let P : List ℤ → Type 0 = λ xs. IsIn xs l in subst P (sym et) (has-append_left (take (get_or s.limits.items last 0) s.trail) (neg_ℤ (literal_at s.decisions.items last) ∷ []) l is)
-
-  made : IsIn trail (neg_ℤ (literal_at s.decisions.items last))
-  made = let l = neg_ℤ (literal_at s.decisions.items last) in let P : List ℤ → Type 0 = λ xs. IsIn xs l in
-      subst P (sym et) (has-append_right (take (get_or s.limits.items last 0) s.trail) (l ∷ []) l (has-here l []))
 
   front_long : length (take (get_or s.limits.items last 0) s.trail) ≡ get_or s.limits.items last 0
   front_long = taken-length s.trail (get_or s.limits.items last 0) (omega (arith, below))
@@ -225,7 +237,6 @@ module _ (clauses : List (List ℤ)) (inputs cursor last id : ℕ) (hints : List
               earlier_true = o.level.earlier_true;
               no_value = o.level.no_value;
               lines_before = subst W (sym logged) (All-push (IsLineBefore xs z) (clauses_of s.lines.items) (negated s.decisions.items) o.level.lines_before mine);
-              below = o.level.below;
             };
             settled = o.settled;
             covered = o.covered;
@@ -247,7 +258,7 @@ module _ (clauses : List (List ℤ)) (inputs cursor last id : ℕ) (hints : List
               let P : List ℤ → Type 0 = λ ys. IsWithin ys xs in
               value-shrinks (take n s.trail) xs (literal_at s.decisions.items last) (subst P (take-take n (get_or s.limits.items last 0) s.trail (omega arith)) (within-take xs n)) before.level.no_value
 
-  pub searching-back : IsSearching clauses inputs (nat_abs (literal_at s.decisions.items last)) (record s { trail = trail; reasons = reasons; decisions = decisions; limits = limits; lines = lines })
+  pub searching-back : IsSearching clauses inputs (record s { trail = trail; reasons = reasons; decisions = decisions; limits = limits; lines = lines })
   searching-back =
       let xs = take (get_or s.limits.items last 0) s.trail in
       let z = literal_at s.decisions.items last in
@@ -267,10 +278,9 @@ module _ (clauses : List (List ℤ)) (inputs cursor last id : ℕ) (hints : List
             (All-weaker (IsLineBefore xs z) (IsTrueLine trail) (subst T (sym et) (λ line b. line_true xs line z b)) (clauses_of s.lines.items) before.level.lines_before)
             (subst O (sym et) (own_line_true xs s.decisions.items z own)));
         lines = subst G (sym en) (lines-push clauses s.lines.items id c hints h.lines next right new ranges);
-        valued = λ v y le. value v y (cases_lt v (nat_abs z)) le;
-        room = (let r = room-refuted inputs cursor (take last s.decisions.items) z in
-            let e : room inputs (nat_abs z) decisions.items ≡ room inputs (nat_abs z) (take last s.decisions.items) = ap (λ (ys : List ℤ). room inputs (nat_abs z) ys) ed in
-            let f : room inputs cursor s.decisions.items ≡ room inputs cursor (take last s.decisions.items ++ z ∷ []) = ap (λ (ys : List ℤ). room inputs cursor ys) whole in
+        room = (let r = room-refuted inputs (get_or s.limits.items last 0) s.trail trail (take last s.limits.items) turned same_front in
+            let e = ap (room inputs trail) el in
+            let f = ap (room inputs s.trail) whole_limits in
             let n : length lines.items ≡ length s.lines.items + 1 = ap length en ∙ length_push s.lines.items (Derive id c hints) in
             let g = h.room in omega arith);
       }
@@ -291,12 +301,30 @@ module _ (clauses : List (List ℤ)) (inputs cursor last id : ℕ) (hints : List
           within_front (y ∷ ys) (suc n) zero lt = omega arith
           within_front (y ∷ ys) (suc n) (suc k) lt = let t = within_front ys n k (omega arith) in omega arith
 
-      value : (v : ℕ) → 0 < v → (v < nat_abs (literal_at s.decisions.items last)) ⊎ (nat_abs (literal_at s.decisions.items last) ≤ v) → v ≤ nat_abs (literal_at s.decisions.items last) → has_value trail (pos v) ≡ true
-      value v y (inl lt) le = value-grows (take (get_or s.limits.items last 0) s.trail) trail (pos v) grows (before.level.below v y lt)
-      value v y (inr ge) le =
-          let e : nat_abs (literal_at s.decisions.items last) ≡ v = omega arith in
-          let P : ℕ → Type 0 = λ n. has_value trail (pos n) ≡ true in
-          subst P e (abs-valued (literal_at s.decisions.items last) trail made)
+      -- the trail up to the last decision, and with its negation in its place
+      decided : take (get_or s.limits.items last 0 + 1) s.trail ≡ take (get_or s.limits.items last 0) s.trail ++ literal_at s.decisions.items last ∷ []
+      decided = take_more s.trail (get_or s.limits.items last 0) (pos 0) below ∙ ap (λ (z : ℤ). take (get_or s.limits.items last 0) s.trail ++ z ∷ []) (h.levels.place last here)
+
+      turned : KeepsValues (take (get_or s.limits.items last 0 + 1) s.trail) trail
+      turned =
+          let xs = take (get_or s.limits.items last 0) s.trail in
+          let z = literal_at s.decisions.items last in
+          let O : List ℤ → Type 0 = λ ys. KeepsValues ys trail in
+          let N : List ℤ → Type 0 = λ ys. KeepsValues (xs ++ z ∷ []) ys in
+          subst O (sym decided) (subst N (sym et) (value-turned xs z))
+
+      limits_long : last < length s.limits.items
+      limits_long = let m = h.levels.as_many in omega (arith, many)
+
+      whole_limits : s.limits.items ≡ take last s.limits.items ++ get_or s.limits.items last 0 ∷ []
+      whole_limits = sym (take_all (last + 1) s.limits.items (let m = h.levels.as_many in omega (arith, many))) ∙ take_more s.limits.items last 0 limits_long
+
+      same_front : (j : ℕ) → j < length (take last s.limits.items) → take (get_or (take last s.limits.items) j 0 + 1) trail ≡ take (get_or (take last s.limits.items) j 0 + 1) s.trail
+      same_front j lt =
+          let k : j < last = (let t = taken-length s.limits.items last (let m = limits_long in omega arith) in omega arith) in
+          let e = taken-at s.limits.items last j 0 k in
+          let g = limit j k in
+          first (get_or (take last s.limits.items) j 0 + 1) (omega arith)
 
   -- the negated decision is the one literal not yet seen
   pub settled-back : AreSettled s.long s.firsts.items s.seconds.items trail (take (length trail - 1) trail)

@@ -8,18 +8,18 @@ use Rattle.jd_logic.specs.Literals.{AreLiterals}
 use Rattle.jd_prover.proofs.Logged.{lines-begun}
 use Rattle.jd_propagate.specs.Quiet.{IsIn}
 use Rattle.jd_propagate.specs.Levels.{clauses_of, IsTrueLine}
-use Rattle.jd_propagate.specs.Room.{room}
-use Rattle.jd_propagate.proofs.Bound.{room-begun}
 use Rattle.jd_propagate.proofs.Members.{false_is_not_true}
 use Rattle.jd_prover.specs.declared.solver.Solver.{Solver}
+use Rattle.jd_prover.specs.Room.{room}
 use Rattle.jd_prover.specs.Solving.{IsTaken, AreLogged}
 use Rattle.jd_prover.specs.Searching.{IsStart}
+use Rattle.jd_prover.proofs.Bound.{room-begun}
 
 none-seen : (xs : List ℤ) (l : ℤ) → IsIn (take 0 xs) l → ⊥
 none-seen [] l e = false_is_not_true _ refl e
 none-seen (x ∷ xs) l e = false_is_not_true _ refl e
 
-pub start-begun : (clauses : List (List ℤ)) (inputs : ℕ) (s : Solver) → IsTaken clauses (length clauses) s → IsStart clauses inputs 0 s 0
+pub start-begun : (clauses : List (List ℤ)) (inputs : ℕ) (s : Solver) → IsTaken clauses (length clauses) s → IsStart clauses inputs s 0
 start-begun clauses inputs s t =
     let none : length s.decisions.items ≡ 0 = ap length t.no_decisions in
     let Q : List Line → Type 0 = λ log. AreLogged clauses log in
@@ -42,8 +42,7 @@ start-begun clauses inputs s t =
         literals = subst L (sym t.no_decisions) no_literal;
         true_lines = subst R (sym t.no_lines) nothing;
         lines = subst Q (sym t.no_lines) (lines-begun clauses);
-        valued = λ v z le. absurd (omega arith);
-        room = (let e = ap (λ (ds : List ℤ). room inputs 0 ds) t.no_decisions in let m = ap length t.no_lines in let b = room-begun inputs in omega arith);
+        room = (let e = ap (room inputs s.trail) t.no_limits in let m = ap length t.no_lines in let b = room-begun inputs s.trail in omega arith);
       };
       settled = λ c lt. record { first = λ e. absurd (none-seen s.trail (neg_ℤ (literal_at s.firsts.items c)) e); second = λ e. absurd (none-seen s.trail (neg_ℤ (literal_at s.seconds.items c)) e) };
       from_in = omega arith;

@@ -1,10 +1,9 @@
 -- A search after a decision.
 use Rattle.std.proofs.Common.{◌≡◌, ◌⊎◌, inl, inr, ℕ, zero, suc, ◌+◌, ◌<◌, ◌≤◌, ◌^◌, ℤ, pos, true, false, List, [], ◌∷◌, ◌++◌, take, length, get_or, refl, sym, ◌∙◌, ap, subst, arith}
-use Rattle.std.specs.Prelude.{Vec, neg_ℤ, nat_abs}
+use Rattle.std.specs.Prelude.{Vec, neg_ℤ}
 use Rattle.std.specs.List.{All}
 use Rattle.std.specs.declared.alloc.Global.{Global}
 use Rattle.std.proofs.Math.IntN.{neg_ℤ-neg_ℤ}
-use Rattle.std.proofs.lemmas.Bool.{cases_lt}
 use Rattle.std.proofs.lemmas.List.{get_or_append_left, get_or_push, length_push, take-append-le}
 use Rattle.std.proofs.lemmas.List.Elements.{All-weaker, All-push}
 use Rattle.jd_logic.specs.Literals.{has, IsLiteral}
@@ -15,9 +14,7 @@ use Rattle.jd_propagate.specs.Quiet.{IsIn, IsWithin, AreQuiet}
 use Rattle.jd_propagate.specs.Levels.{clauses_of, IsTrueLine, IsLineBefore}
 use Rattle.jd_propagate.specs.Passing.{literal_at, AreSettled}
 use Rattle.jd_propagate.specs.Reasons.{AreReasons}
-use Rattle.jd_propagate.specs.Room.{room}
 use Rattle.jd_propagate.proofs.Attaching.{each_more}
-use Rattle.jd_propagate.proofs.Bound.{room-decided}
 use Rattle.jd_propagate.proofs.Extensions.{extends-push, take-beyond}
 use Rattle.jd_propagate.proofs.Keeping.{reasons-more}
 use Rattle.jd_propagate.proofs.Members.{false_is_not_true, has-here, has-cases, has-append_left, has-append_right, or_false, or_right}
@@ -26,6 +23,8 @@ use Rattle.jd_propagate.proofs.Watching.{has-at, settled-grows}
 use Rattle.jd_prover.specs.declared.solver.Solver.{Solver}
 use Rattle.jd_prover.specs.Solving.{store_of}
 use Rattle.jd_prover.specs.Searching.{IsBefore, AreLevels, IsSearching}
+use Rattle.jd_prover.specs.Room.{room}
+use Rattle.jd_prover.proofs.Bound.{room-decided}
 use Rattle.jd_prover.proofs.Stored.{reasons-weaker, same_clauses}
 use Rattle.jd_prover.proofs.Taking.{covered-grows}
 use Rattle.jd_prover.proofs.Running.{grown, value-grows, true_line-grows, at-front}
@@ -43,10 +42,6 @@ pub negation-literal : (v : ℕ) → 0 < v → v < 2 ^ 31 → IsLiteral (neg_ℤ
 negation-literal zero z lt = absurd (omega arith)
 negation-literal (suc k) z lt = record { not_zero = omega arith; bounded = omega arith }
 
-pub negation-abs : (v : ℕ) → 0 < v → nat_abs (neg_ℤ (pos v)) ≡ v
-negation-abs zero z = absurd (omega arith)
-negation-abs (suc k) z = refl
-
 pub negation-open : (trail : List ℤ) (l : ℤ) → has_value trail l ≡ false → has_value trail (neg_ℤ l) ≡ false
 negation-open trail l e = or_false (has trail (neg_ℤ l)) (has trail (neg_ℤ (neg_ℤ l))) (value-right trail l e) (ap (has trail) (neg_ℤ-neg_ℤ l) ∙ value-left trail l e)
 
@@ -57,11 +52,10 @@ negation-valued trail l = or_right (has (trail ++ neg_ℤ l ∷ []) l) (has (tra
 pub decisions-true : (clauses : List (List ℤ)) (s : Solver) → AreLevels clauses s → IsWithin s.decisions.items s.trail
 decisions-true clauses s h = within-each s.decisions.items s.trail (λ j lt. (let P : ℤ → Type 0 = λ z. IsIn s.trail z in subst P (h.place j lt) (has-at s.trail (get_or s.limits.items j 0) (pos 0) (h.below j lt))))
 
-module _ (clauses : List (List ℤ)) (inputs cursor v : ℕ) (d : ℤ) (s : Solver) (trail : List ℤ) (reasons : Vec Reason Global) (decisions : Vec ℤ Global) (limits : Vec ℕ Global)
-    (h : IsSearching clauses inputs cursor s) (settled : AreSettled s.long s.firsts.items s.seconds.items s.trail s.trail) (quiet : AreQuiet s.trail clauses)
-    (abs : nat_abs d ≡ v) (literal : IsLiteral d) (open' : has_value s.trail d ≡ false)
-    (above : cursor < v) (inside : v ≤ inputs) (between : (w : ℕ) → cursor < w → w < v → has_value s.trail (pos w) ≡ true)
-    (valued : has_value (s.trail ++ d ∷ []) (pos v) ≡ true)
+module _ (clauses : List (List ℤ)) (inputs v : ℕ) (d : ℤ) (s : Solver) (trail : List ℤ) (reasons : Vec Reason Global) (decisions : Vec ℤ Global) (limits : Vec ℕ Global)
+    (h : IsSearching clauses inputs s) (settled : AreSettled s.long s.firsts.items s.seconds.items s.trail s.trail) (quiet : AreQuiet s.trail clauses)
+    (literal : IsLiteral d) (open' : has_value s.trail d ≡ false)
+    (above : 0 < v) (inside : v ≤ inputs) (none : has_value s.trail (pos v) ≡ false) (valued : has_value (s.trail ++ d ∷ []) (pos v) ≡ true)
     (et : trail ≡ s.trail ++ d ∷ []) (er : reasons.items ≡ s.reasons.items ++ Decision ∷ []) (ed : decisions.items ≡ s.decisions.items ++ d ∷ [])
     (el : limits.items ≡ s.limits.items ++ length s.trail ∷ []) where
   abbrev new : Solver
@@ -138,17 +132,12 @@ module _ (clauses : List (List ℤ)) (inputs cursor v : ℕ) (d : ℤ) (s : Solv
               earlier_true = decisions-true clauses s h.levels;
               no_value = open';
               lines_before = All-weaker (IsTrueLine s.trail) (IsLineBefore s.trail d) (λ line t. inl t) (clauses_of s.lines.items) h.true_lines;
-              below = λ w z lt. below w z (let a = abs in omega arith) (cases_lt cursor w);
             };
             settled = settled;
             covered = h.covered;
           })
-        where
-          below : (w : ℕ) → 0 < w → w < v → (cursor < w) ⊎ (w ≤ cursor) → has_value s.trail (pos w) ≡ true
-          below w z lt (inl a) = between w a lt
-          below w z lt (inr b) = h.valued w z b
 
-  pub searching-decided : IsSearching clauses inputs v (record s { trail = trail; reasons = reasons; decisions = decisions; limits = limits })
+  pub searching-decided : IsSearching clauses inputs (record s { trail = trail; reasons = reasons; decisions = decisions; limits = limits })
   searching-decided =
       let store = store_of clauses s.lines.items in
       let ds = s.decisions.items in
@@ -170,16 +159,11 @@ module _ (clauses : List (List ℤ)) (inputs cursor v : ℕ) (d : ℤ) (s : Solv
         literals = subst L (sym ed) (All-push IsLiteral ds d h.literals literal);
         true_lines = All-weaker (IsTrueLine s.trail) (IsTrueLine trail) (λ line t. true_line-grows s.trail trail line grows t) (clauses_of s.lines.items) h.true_lines;
         lines = h.lines;
-        valued = λ w z le. value w z le (cases_lt cursor w) (cases_lt w v) (subst V (sym et) valued);
-        room = (let r = room-decided inputs cursor ds d (let a = abs in omega arith) (let a = abs in omega arith) in
-            let e : room inputs v decisions.items ≡ room inputs (nat_abs d) (ds ++ d ∷ []) = ap (λ (k : ℕ). room inputs k decisions.items) (sym abs) ∙ ap (λ (xs : List ℤ). room inputs (nat_abs d) xs) ed in
+        room = (let r = room-decided inputs v s.trail trail s.limits.items (extends-push s.trail trail d et) long_trail (λ l. value-grows s.trail trail l grows)
+            (λ j lt. h.levels.below j (let m = h.levels.as_many in omega arith)) above inside none (subst V (sym et) valued) in
+            let e = ap (room inputs trail) el in
             let g = h.room in omega arith);
       }
-    where
-      value : (w : ℕ) → 0 < w → w ≤ v → (cursor < w) ⊎ (w ≤ cursor) → (w < v) ⊎ (v ≤ w) → has_value trail (pos v) ≡ true → has_value trail (pos w) ≡ true
-      value w z le (inr b) o is = value-grows s.trail trail (pos w) grows (h.valued w z b)
-      value w z le (inl a) (inl b) is = value-grows s.trail trail (pos w) grows (between w a b)
-      value w z le (inl a) (inr b) is = (let e : v ≡ w = omega arith in let P : ℕ → Type 0 = λ k. has_value trail (pos k) ≡ true in subst P e is)
 
   -- the decision is the one literal not yet seen
   pub settled-decided : AreSettled s.long s.firsts.items s.seconds.items trail (take (length s.trail) trail)

@@ -1,3 +1,4 @@
+pub mod Bound
 pub mod Stored
 pub mod Taking
 pub mod Hinting

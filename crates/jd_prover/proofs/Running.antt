@@ -15,6 +15,7 @@ use Rattle.jd_propagate.proofs.Extensions.{front-stays, within-take}
 use Rattle.jd_prover.specs.declared.solver.Solver.{Solver}
 use Rattle.jd_prover.specs.Solving.{store_of}
 use Rattle.jd_prover.specs.Searching.{AreCovered, IsBefore, IsSearching}
+use Rattle.jd_prover.proofs.Bound.{room-grown}
 use Rattle.jd_prover.proofs.Taking.{covered-grows}
 use Rattle.jd_prover.proofs.Cutting.{taken-at}
 
@@ -33,11 +34,11 @@ true_line-grows old new line w (l, t) = (l, record { among = t.among; is_true = 
 pub at-front : (old new : List ℤ) (i : ℕ) → Extends old new → i < length old → literal_at new i ≡ literal_at old i
 at-front old new i e lt = sym (taken-at new (length old) i (pos 0) lt) ∙ ap (λ xs. literal_at xs i) e.front
 
-pub searching-grows : (clauses : List (List ℤ)) (inputs cursor : ℕ) (s : Solver) (fs ss : Vec ℤ Global) (ls : Vec (Vec ℕ Global) Global) (trail : List ℤ) (reasons : Vec Reason Global)
-    → IsSearching clauses inputs cursor s → AreWatched s.long fs.items ss.items ls.items → Extends s.trail trail
+pub searching-grows : (clauses : List (List ℤ)) (inputs : ℕ) (s : Solver) (fs ss : Vec ℤ Global) (ls : Vec (Vec ℕ Global) Global) (trail : List ℤ) (reasons : Vec Reason Global)
+    → IsSearching clauses inputs s → AreWatched s.long fs.items ss.items ls.items → Extends s.trail trail
     → KeepsSettled s.long s.firsts.items s.seconds.items s.trail fs.items ss.items trail → KeepsReasons s.long s.trail s.reasons.items trail reasons.items
-    → IsSearching clauses inputs cursor (record s { firsts = fs; seconds = ss; lists = ls; trail = trail; reasons = reasons })
-searching-grows clauses inputs cursor s fs ss ls trail reasons h watched grows saved kept =
+    → IsSearching clauses inputs (record s { firsts = fs; seconds = ss; lists = ls; trail = trail; reasons = reasons })
+searching-grows clauses inputs s fs ss ls trail reasons h watched grows saved kept =
     let w = grown s.trail trail grows in
     let longer = grows.longer in
     record {
@@ -54,8 +55,8 @@ searching-grows clauses inputs cursor s fs ss ls trail reasons h watched grows s
       literals = h.literals;
       true_lines = All-weaker (IsTrueLine s.trail) (IsTrueLine trail) (λ line t. true_line-grows s.trail trail line w t) (clauses_of s.lines.items) h.true_lines;
       lines = h.lines;
-      valued = λ v z le. value-grows s.trail trail (pos v) w (h.valued v z le);
-      room = h.room;
+      room = (let r = room-grown inputs s.trail trail s.limits.items grows (λ l. value-grows s.trail trail l w) (λ j lt. h.levels.below j (let m = h.levels.as_many in omega arith)) in
+          let g = h.room in omega arith);
     }
   where
     before : (j : ℕ) → j < length s.decisions.items

@@ -1,5 +1,5 @@
 //! Decisions, and the way back from them.
-ghost use Rattle.std.specs.Prelude.{◌≡◌, ◌+◌, ◌-◌, ◌<◌, ◌≤◌, ◌^◌, ◌++◌, ◌∷◌, [], ℕ, pos, neg_ℤ, nat_abs, true, false, MatchOption, IfOk, OnOk, length, slice_index_or};
+ghost use Rattle.std.specs.Prelude.{◌≡◌, ◌+◌, ◌-◌, ◌<◌, ◌≤◌, ◌^◌, ◌++◌, ◌∷◌, [], ℕ, pos, neg_ℤ, true, false, MatchOption, IfOk, OnOk, length, slice_index_or};
 ghost use Rattle.jd_logic.specs.Literals.{IsLiteral, has};
 ghost use Rattle.jd_proving.specs.Propagation.{has_value};
 ghost use Rattle.jd_propagate.specs.declared.reason.Reason.TheVariants as because;
@@ -19,7 +19,7 @@ pub fn literal_of(variable: u32) -> i32
 }
 
 /// Whether a variable has a value.
-fn is_valued(trail: &Trail, variable: u32) -> bool
+pub fn is_valued(trail: &Trail, variable: u32) -> bool
     requires above { 0 < variable }
     requires small { variable < 2 ^ 31 }
     ensures { result ≡ has_value trail.now (pos variable) }
@@ -75,18 +75,18 @@ fn negation_of(variable: u32) -> i32
     -literal_of(variable)
 }
 
-/// Decides that a variable is false, the first above the cursor without a value.
+/// Decides that an input without a value is false.
 pub fn decide(
     _clauses: &Clauses,
     _inputs: u32,
-    _cursor: u32,
     solver: &mut Solver,
     variable: u32,
 ) -> Result<(), NoMemory>
     requires small { _inputs < 2 ^ 31 }
-    requires node { IsNode _clauses.now _inputs _cursor solver.old None }
-    requires open { (_cursor < variable) × (variable ≤ _inputs) × (has_value solver.old.trail (pos variable) ≡ false) × ((v : ℕ) → _cursor < v → v < variable → has_value solver.old.trail (pos v) ≡ true) }
-    ensures start { OnOk result (IsStart _clauses.now _inputs variable solver.new (length solver.new.trail - 1)) }
+    requires node { IsNode _clauses.now _inputs solver.old None }
+    requires input { (0 < variable) × (variable ≤ _inputs) }
+    requires no_value { has_value solver.old.trail (pos variable) ≡ false }
+    ensures start { OnOk result (IsStart _clauses.now _inputs solver.new (length solver.new.trail - 1)) }
     ensures lines { solver.new.lines.items ≡ solver.old.lines.items }
     ensures some { OnOk result (0 < length solver.new.trail) }
 {
@@ -95,13 +95,6 @@ pub fn decide(
     solver.decisions.push(l)?;
     make_true(&mut solver.trail, &mut solver.reasons, l, Reason::Decision)?;
     Ok(())
-}
-
-/// A literal's variable.
-fn variable_of(l: i32) -> u32
-    ensures { result ≡ nat_abs l }
-{
-    l.unsigned_abs()
 }
 
 /// Makes the negation of a literal true by a line.
@@ -114,23 +107,21 @@ fn make_false(trail: &mut Trail, reasons: &mut Vec<Reason>, l: i32, id: u64) -> 
     make_true(trail, reasons, -l, Reason::Line(id))
 }
 
-/// Takes back the last decision, and makes its negation true by the line of a conflict; gives its
-/// variable.
+/// Takes back the last decision, and makes its negation true by the line of a conflict.
 pub fn turn_back(
     _clauses: &Clauses,
     _inputs: u32,
-    _cursor: u32,
     solver: &mut Solver,
     line: Line,
     id: u64,
-) -> Result<u32, NoMemory>
+) -> Result<(), NoMemory>
     requires many { length _clauses.now < 2 ^ 31 }
-    requires searching { IsSearching _clauses.now _inputs _cursor solver.old }
+    requires searching { IsSearching _clauses.now _inputs solver.old }
     requires decided { 0 < length solver.old.decisions.items }
     requires next { id ≡ length _clauses.now + length solver.old.lines.items + 1 }
     requires few { length solver.old.lines.items < 2 ^ 20 }
     requires line { IsConflictLine _clauses.now solver.old id line }
-    ensures start { IfOk result (λ v. IsStart _clauses.now _inputs v solver.new (length solver.new.trail - 1)) }
+    ensures start { OnOk result (IsStart _clauses.now _inputs solver.new (length solver.new.trail - 1)) }
     ensures lines { OnOk result (length solver.new.lines.items ≡ length solver.old.lines.items + 1) }
     ensures some { OnOk result (0 < length solver.new.trail) }
 {
@@ -145,5 +136,5 @@ pub fn turn_back(
     solver.reasons.truncate(limit);
     make_false(&mut solver.trail, &mut solver.reasons, l, id)?;
     solver.lines.push(line)?;
-    Ok(variable_of(l))
+    Ok(())
 }

@@ -1,4 +1,5 @@
-//! A search for a refutation or a model that decides the inputs in their order.
+//! A search for a refutation or a model that decides the inputs in their order, those that no
+//! watched clause names last.
 //!
 //! The search: `prove`. What every search over the clauses stands on: `Solver`, `setup::prepare`,
 //! `explain`.
@@ -7,6 +8,7 @@
 pub mod decide;
 pub mod explain;
 mod line;
+mod order;
 mod search;
 pub mod setup;
 mod solver;

@@ -8,25 +8,19 @@ ghost use Rattle.jd_prover.specs.Solving.{IsTaken};
 ghost use Rattle.jd_prover.specs.Searching.{IsStart, IsNode, IsTurned};
 
 use crate::Solver;
-use crate::decide::{decide, next_open, turn_back, values};
+use crate::decide::{decide, turn_back, values};
 use crate::line::conflict_line;
+use crate::order::Order;
 use crate::setup::{Prepared, prepare};
 use jd_propagate::propagate::propagate;
 use jd_propagate::{Bits, Clauses, Log, NoMemory, Proof};
 use std::alloc::Global;
 
-/// Where a search stands: the inputs up to a cursor have values, and all clauses are quiet, or that
-/// at a place is false.
-#[derive(Clone, Copy)]
-pub struct Node {
-    pub cursor: u32,
-    pub conflict: Option<usize>,
-}
-
 /// What a turn of the search gives.
 #[derive(Drop)]
 pub enum Turned {
-    Goes(Node),
+    /// All clauses are quiet, or the one at this place is false.
+    Goes(Option<usize>),
     Refuted,
     Model(Vec<bool>),
     Spent,
@@ -44,12 +38,11 @@ fn origin_of(solver: &Solver, clause: usize) -> usize
 fn run(
     _clauses: &Clauses,
     _inputs: u32,
-    _cursor: u32,
     solver: &mut Solver,
     from: usize,
 ) -> Result<Option<usize>, NoMemory>
-    requires { IsStart _clauses.now _inputs _cursor solver.old from }
-    ensures node { IfOk result (λ found. IsNode _clauses.now _inputs _cursor solver.new found) }
+    requires { IsStart _clauses.now _inputs solver.old from }
+    ensures node { IfOk result (λ found. IsNode _clauses.now _inputs solver.new found) }
     ensures lines { solver.new.lines.items ≡ solver.old.lines.items }
 {
     let found = propagate(
@@ -68,19 +61,14 @@ fn run(
 }
 
 /// Propagates from the last literal on.
-fn go_on(
-    clauses: &Clauses,
-    inputs: u32,
-    cursor: u32,
-    solver: &mut Solver,
-) -> Result<Turned, NoMemory>
-    requires start { IsStart clauses.now inputs cursor solver.old (length solver.old.trail - 1) }
+fn go_on(clauses: &Clauses, inputs: u32, solver: &mut Solver) -> Result<Turned, NoMemory>
+    requires start { IsStart clauses.now inputs solver.old (length solver.old.trail - 1) }
     requires some { 0 < length solver.old.trail }
     ensures { IfOk result (λ turn. (budget : ℕ) → length solver.old.lines.items ≤ budget → IsTurned clauses.now inputs budget solver.new turn) }
 {
     let from = solver.trail.len() - 1;
-    let conflict = run(clauses, inputs, cursor, solver, from)?;
-    Ok(Turned::Goes(Node { cursor, conflict }))
+    let conflict = run(clauses, inputs, solver, from)?;
+    Ok(Turned::Goes(conflict))
 }
 
 /// Adds the line of a conflict, and tries the other value of the last decision's variable.
@@ -89,7 +77,7 @@ fn refute(
     clauses: &Clauses,
     inputs: u32,
     budget: u32,
-    cursor: u32,
+    order: &mut Order,
     conflict: usize,
     solver: &mut Solver,
 ) -> Result<Turned, NoMemory>
@@ -97,7 +85,7 @@ fn refute(
     requires none_empty { list_any is_empty clauses.now ≡ false }
     requires small { budget ≤ 2 ^ 20 }
     requires few { length solver.old.lines.items < budget }
-    requires node { IsNode clauses.now inputs cursor solver.old (Some conflict) }
+    requires node { IsNode clauses.now inputs solver.old (Some conflict) }
     ensures { IfOk result (λ turn. IsTurned clauses.now inputs budget solver.new turn) }
 {
     let id = clauses.len() as u64 + solver.lines.len() as u64 + 1;
@@ -106,8 +94,9 @@ fn refute(
         solver.lines.push(line)?;
         return Ok(Turned::Refuted);
     }
-    let variable = turn_back(clauses, inputs, cursor, solver, line, id)?;
-    let turn = go_on(clauses, inputs, variable, solver)?;
+    turn_back(clauses, inputs, solver, line, id)?;
+    order.go_back(solver);
+    let turn = go_on(clauses, inputs, solver)?;
     Ok(turn)
 }
 
@@ -117,22 +106,22 @@ fn descend(
     clauses: &Clauses,
     inputs: u32,
     budget: u32,
-    cursor: u32,
+    order: &mut Order,
     solver: &mut Solver,
 ) -> Result<Turned, NoMemory>
     requires small { inputs < 2 ^ 31 }
     requires decided { AreDecided clauses.now inputs }
     requires few { length solver.old.lines.items ≤ budget }
-    requires node { IsNode clauses.now inputs cursor solver.old None }
+    requires node { IsNode clauses.now inputs solver.old None }
     ensures { IfOk result (λ turn. IsTurned clauses.now inputs budget solver.new turn) }
 {
     // For the fact that no literal of the trail stands beside its negation.
     let _literals = solver.trail.literals();
-    match next_open(&solver.trail, cursor, inputs) {
+    match order.next(&solver.trail, inputs) {
         None => Ok(Turned::Model(values(alloc, &solver.trail, inputs)?)),
         Some(variable) => {
-            decide(clauses, inputs, cursor, solver, variable)?;
-            let turn = go_on(clauses, inputs, variable, solver)?;
+            decide(clauses, inputs, solver, variable)?;
+            let turn = go_on(clauses, inputs, solver)?;
             Ok(turn)
         }
     }
@@ -144,7 +133,8 @@ fn turn(
     clauses: &Clauses,
     inputs: u32,
     budget: u32,
-    node: Node,
+    order: &mut Order,
+    conflict: Option<usize>,
     solver: &mut Solver,
 ) -> Result<Turned, NoMemory>
     requires many { length clauses.now < 2 ^ 31 }
@@ -152,24 +142,16 @@ fn turn(
     requires small { (inputs < 2 ^ 31) × (budget ≤ 2 ^ 20) }
     requires decided { AreDecided clauses.now inputs }
     requires few { length solver.old.lines.items ≤ budget }
-    requires node { IsNode clauses.now inputs node.cursor solver.old node.conflict }
+    requires node { IsNode clauses.now inputs solver.old conflict }
     ensures { IfOk result (λ turn. IsTurned clauses.now inputs budget solver.new turn) }
 {
-    match node.conflict {
-        None => descend(alloc, clauses, inputs, budget, node.cursor, solver),
+    match conflict {
+        None => descend(alloc, clauses, inputs, budget, order, solver),
         Some(conflict) => {
             if solver.lines.len() >= budget as usize {
                 return Ok(Turned::Spent);
             }
-            refute(
-                alloc,
-                clauses,
-                inputs,
-                budget,
-                node.cursor,
-                conflict,
-                solver,
-            )
+            refute(alloc, clauses, inputs, budget, order, conflict, solver)
         }
     }
 }
@@ -189,16 +171,21 @@ fn search(
     requires taken { IsTaken clauses.now (length clauses.now) taken }
     ensures { IfOk result (λ proof. IsAnswer clauses.now inputs budget proof) }
 {
+    let mut order = Order::new(alloc, &taken, inputs)?;
     let mut solver = taken;
-    let conflict = run(clauses, inputs, 0, &mut solver, 0)?;
-    let mut node = Node {
-        cursor: 0,
-        conflict,
-    };
+    let mut conflict = run(clauses, inputs, &mut solver, 0)?;
     // 2^64 turns never pass: the bound stands in for a measure.
     'nodes: for _ in 0..u64::MAX {
-        match turn(alloc, clauses, inputs, budget, node, &mut solver)? {
-            Turned::Goes(next) => node = next,
+        match turn(
+            alloc,
+            clauses,
+            inputs,
+            budget,
+            &mut order,
+            conflict,
+            &mut solver,
+        )? {
+            Turned::Goes(next) => conflict = next,
             Turned::Refuted => return Ok(Proof::Refuted(Log::new(solver.lines))),
             Turned::Model(bits) => return Ok(Proof::Model(Bits::new(bits))),
             Turned::Spent => return Ok(Proof::Unknown(Log::new(solver.lines))),

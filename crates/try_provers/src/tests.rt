@@ -45,6 +45,15 @@ fn texts_of_logs(rt: HostRuntime) -> Result<()> {
     Ok(())
 }
 
+/// The plain search decides first what clauses name: no line has variable 1.
+#[test]
+fn order_of_decisions(rt: HostRuntime) -> Result<()> {
+    let text = b"p cnf 3 4\n2 3 0 2 -3 0 -2 3 0 -2 -3 0\n";
+    let log = log_text(rt.alloc(), Search::Plain, 4, text)?;
+    assert_eq!(rt; log.as_slice(), b"5 2 0 1 2 0\n6 0 5 3 4 0\n".as_slice());
+    Ok(())
+}
+
 #[test]
 fn words(rt: HostRuntime) -> Result<()> {
     for (name, budget, want) in [

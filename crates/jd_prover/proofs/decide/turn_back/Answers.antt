@@ -1,5 +1,5 @@
-use Rattle.std.proofs.Common.{rules, arith, ◌≡◌, ◌∙◌, ap, sym, subst, ℕ, ◌+◌, ◌-◌, ◌<◌, ◌^◌, ℤ, pos, w32, List, [], ◌∷◌, ◌++◌, length, take, get_or}
-use Rattle.std.specs.Prelude.{neg_ℤ, nat_abs}
+use Rattle.std.proofs.Common.{rules, arith, ◌≡◌, ◌∙◌, ap, subst, ℕ, ◌+◌, ◌-◌, ◌<◌, ◌^◌, ℤ, pos, w32, List, [], ◌∷◌, ◌++◌, length, take, get_or}
+use Rattle.std.specs.Prelude.{neg_ℤ}
 use mir.Val.{SFits}
 use Rattle.std.proofs.lemmas.Int.{to_z-of_z}
 use Rattle.std.proofs.lemmas.List.{get_or_default}
@@ -9,8 +9,6 @@ use Rattle.jd_propagate.specs.declared.reason.Reason.{Reason}
 use Rattle.jd_propagate.specs.declared.reason.Reason.TheVariants as reason
 use Rattle.jd_propagate.specs.Levels.{negated}
 use Rattle.jd_propagate.specs.Quiet.{HasNoOpposites}
-use Rattle.jd_prover.specs.declared.solver.Solver.{Solver}
-use Rattle.jd_prover.specs.Searching.{IsSearching}
 use Rattle.jd_prover.proofs.Backing.{searching-back, settled-back}
 use Rattle.jd_prover.proofs.decide.turn_back.Goals as goal
 
@@ -47,11 +45,8 @@ returns-clause-start c =
     let opposites = c.literals-literals.ensures.orderly.no_opposites in
     let O : List ℤ → Type 0 = λ xs. HasNoOpposites xs in
     let o = subst O c.literals-literals.ensures.same opposites in
-    let next : Solver = record s { trail = trail; reasons = reasons; decisions = decisions; limits = limits; lines = lines } in
-    let V : ℕ → Type 0 = λ v. IsSearching cs c.args._inputs v next in
-    let ev : c.variable_of.result ≡ nat_abs d = c.variable_of.ensures ∙ ap nat_abs (z ∙ ei) in
     record {
-      searching = subst V (sym ev) (searching-back cs c.args._inputs c.args._cursor last id r.hints s trail reasons decisions limits lines h o many r.right ranges c.requires.next small et er c.truncate.ensures.items c.truncate-2.ensures.items en);
-      settled = settled-back cs c.args._inputs c.args._cursor last id r.hints s trail reasons decisions limits lines h o many r.right ranges c.requires.next small et er c.truncate.ensures.items c.truncate-2.ensures.items en;
+      searching = searching-back cs c.args._inputs last id r.hints s trail reasons decisions limits lines h o many r.right ranges c.requires.next small et er c.truncate.ensures.items c.truncate-2.ensures.items en;
+      settled = settled-back cs c.args._inputs last id r.hints s trail reasons decisions limits lines h o many r.right ranges c.requires.next small et er c.truncate.ensures.items c.truncate-2.ensures.items en;
       from_in = omega arith;
     }

@@ -12,4 +12,4 @@ returns-then-is_empty c =
     (search rules) (omega (arith, c.len.ensures, c.len-2.ensures)) (omega (arith, c.len.ensures, c.len-2.ensures, c.requires.many, c.requires.few, c.requires.small)) c.requires.none_empty c.requires.few c.in_ok-push.ensures.items
 
 pub returns : goal.returns
-returns c = c.in_ok-turn.ensures c.args.budget (omega (arith, c.in_ok-variable.ensures.lines, c.requires.few))
+returns c = c.in_ok-turn.ensures c.args.budget (omega (arith, c.in_ok-turn_back.ensures.lines, c.requires.few))

@@ -13,7 +13,7 @@ returns-in-None-clause-node c =
     let e = c.in_ok-found.ensures in
     let F : Option ℕ → Type 0 = λ o. IsPropagated s.long n.firsts.items n.seconds.items n.lists.items n.trail o in
     let p = subst F c.in-None.is e.propagated in
-    let h = searching-grows cs c.args._inputs c.args._cursor s n.firsts n.seconds n.lists n.trail n.reasons c.requires.searching (p.0) e.grows e.saved e.reasons in
+    let h = searching-grows cs c.args._inputs s n.firsts n.seconds n.lists n.trail n.reasons c.requires.searching (p.0) e.grows e.saved e.reasons in
     (h, p.1, covered-quiet cs s.long n.trail (λ k lt. p.2 k [] lt) h.covered)
 
 pub returns-in-Some-clause-node : goal.returns-in-Some-clause-node
@@ -24,7 +24,7 @@ returns-in-Some-clause-node c =
     let e = c.in_ok-found.ensures in
     let F : Option ℕ → Type 0 = λ o. IsPropagated s.long n.firsts.items n.seconds.items n.lists.items n.trail o in
     let p = subst F c.in-Some.is e.propagated in
-    let h = searching-grows cs c.args._inputs c.args._cursor s n.firsts n.seconds n.lists n.trail n.reasons c.requires.searching (p.0) e.grows e.saved e.reasons in
+    let h = searching-grows cs c.args._inputs s n.firsts n.seconds n.lists n.trail n.reasons c.requires.searching (p.0) e.grows e.saved e.reasons in
     let o = h.known.origins in
     let N : ℕ → Type 0 = λ k. (k < length cs) × IsFalseBy n.trail (clause_of cs k) in
     let C : List ℤ → Type 0 = λ xs. IsFalseBy n.trail xs in

@@ -4,6 +4,6 @@ use Rattle.jd_prover.proofs.search.search.Given as goal
 
 abbrev pub invariant-nodes : goal.invariant-nodes
 invariant-nodes l = record {
-  node : IsNode l.clauses l.inputs l.node.cursor l.solver l.node.conflict;
+  node : IsNode l.clauses l.inputs l.solver l.conflict;
   few : length l.solver.lines.items ≤ l.budget;
 }
