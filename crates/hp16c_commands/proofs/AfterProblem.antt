@@ -9,7 +9,7 @@ use Rattle.jd_model.specs.ProblemTexts.{problem_of}
 use Rattle.jd_model.specs.StartTexts.{start_of_text}
 use Rattle.jd_model.specs.Replays.{after_lines, problem_and, replay_input}
 use Rattle.jd_problem.specs.ProblemTexts.{IsProblemTo}
-use Rattle.hp16c_commands.specs.Judge.{judge_input, nothing_more}
+use Rattle.hp16c_commands.specs.Judging.{judge_input, nothing_more}
 
 module _ {A C : Type 0} (after : Problem → List ℕ → Result A (ℕ × C)) where
   after_read : List ℕ → Result (Problem × ℕ) (ℕ × ProblemCause) → Result (Problem × A) ℕ

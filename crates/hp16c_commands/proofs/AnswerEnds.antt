@@ -15,12 +15,11 @@ use Rattle.hp16c_commands.specs.declared.outcomes.Status.{Status}
 use Rattle.hp16c_commands.specs.declared.outcomes.Status.TheVariants.{Done, Different, Unknown, Usage, BadInput, Limit, ReadFault, WriteFault, NoMemory, CertRefused, TooManyPaths}
 use Rattle.hp16c_commands.specs.declared.whole_inputs.WholeInput.{WholeInput}
 use Rattle.hp16c_commands.specs.declared.whole_inputs.WholeInput.TheVariants as inputs
-use Rattle.hp16c_commands.specs.Assemble.{coded}
-use Rattle.hp16c_commands.specs.List.{listed}
+use Rattle.hp16c_commands.specs.Routines.{coded, listed}
 use Rattle.hp16c_commands.specs.Lrat.{answer_of_verdict}
-use Rattle.hp16c_commands.specs.Replay.{status_of_agreement, replayed}
-use Rattle.hp16c_commands.specs.Judge.{IsJudgement, IsJudged, judge_input}
-use Rattle.hp16c_commands.specs.Check.{IsCheck, IsChecked}
+use Rattle.hp16c_commands.specs.Replays.{status_of_agreement, replayed}
+use Rattle.hp16c_commands.specs.Judging.{IsJudgement, IsJudged, judge_input}
+use Rattle.hp16c_commands.specs.Checking.{IsCheck, IsChecked}
 use Rattle.hp16c_commands.specs.Answers.{Answer, bad_line}
 use Rattle.hp16c_commands.specs.WholeInputs.{Answers, is_answer_of}
 

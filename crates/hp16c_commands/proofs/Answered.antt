@@ -10,7 +10,7 @@ use Rattle.hp_session.specs.Steps.{shown}
 use Rattle.hp_session.specs.Ends.{session_so_far, BeforeLastRead, WasRefused, WasCutOff}
 use Rattle.hp16c_commands.specs.declared.outcomes.Status.{Status}
 use Rattle.hp16c_commands.specs.declared.outcomes.Status.TheVariants.{Done, Different, Unknown, Usage, BadInput, Limit, ReadFault, WriteFault, NoMemory, CertRefused, TooManyPaths}
-use Rattle.hp16c_commands.specs.Keys.{WasAnswered, WasCut, IfAnswer, KeysTold, TakenTo, keys_status, keys_text, last_words, status_of_end}
+use Rattle.hp16c_commands.specs.KeyFiles.{WasAnswered, WasCut, IfAnswer, KeysTold, TakenTo, keys_status, keys_text, last_words, status_of_end}
 
 -- where the status is the answer, the last line was written
 pub written_whole : {T E A : Type 0} (r : Result T E) (answer result : Status) → result ≡ (if is_ok r then answer else WriteFault) → answer ≢ WriteFault → result ≡ answer → OnOk r A → A

@@ -4,12 +4,12 @@ use Rattle.hp16c_commands.specs.declared.commands.Command.TheVariants.{Keys, Rea
 use Rattle.hp16c_commands.specs.declared.outcomes.Status.TheVariants.{Done, Different, Unknown, BadInput, Limit, NoMemory, CertRefused}
 use Rattle.hp16c_commands.specs.declared.whole_inputs.WholeInput.TheVariants as inputs
 use Rattle.hp16c_commands.specs.Answers.{told, bad_line, too_long}
-use Rattle.hp16c_commands.specs.Assemble.{asm_answer}
-use Rattle.hp16c_commands.specs.Check.{check_line}
+use Rattle.hp16c_commands.specs.Routines.{asm_answer}
+use Rattle.hp16c_commands.specs.Checking.{check_line}
 use Rattle.hp16c_commands.specs.Commands.{command_of}
-use Rattle.hp16c_commands.specs.Keys.{keys_status, keys_text}
+use Rattle.hp16c_commands.specs.KeyFiles.{keys_status, keys_text}
 use Rattle.hp16c_commands.specs.Lrat.{lrat_answer}
-use Rattle.hp16c_commands.specs.Paths.{path_text}
+use Rattle.hp16c_commands.specs.PathTexts.{path_text}
 use Rattle.hp16c_commands.specs.WholeInputs.{can_end, limit_of}
 
 -- words

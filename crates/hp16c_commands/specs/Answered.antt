@@ -1,4 +1,4 @@
--- An answer as callers see it.
+-- An answer as callers see it. It stands apart from `Told`, which the type of an answer needs itself.
 use Rattle.hp16c_commands.specs.declared.told.Answer.{Answer as AnswerTold}
 use Rattle.hp16c_commands.specs.Answers.{Answer}
 use Rattle.hp16c_commands.specs.Told.{answer_told}

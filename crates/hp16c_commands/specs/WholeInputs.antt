@@ -10,11 +10,10 @@ use Rattle.hp16c_commands.specs.declared.whole_inputs.WholeInput.{WholeInput}
 use Rattle.hp16c_commands.specs.declared.whole_inputs.WholeInput.TheVariants as inputs
 use Rattle.hp16c_commands.specs.Answers.{Answer, too_long}
 use Rattle.hp16c_commands.specs.Lrat.{lrat_answer}
-use Rattle.hp16c_commands.specs.Assemble.{asm_answer}
-use Rattle.hp16c_commands.specs.List.{list_answer}
-use Rattle.hp16c_commands.specs.Replay.{replay_answer}
-use Rattle.hp16c_commands.specs.Judge.{JudgeAnswers}
-use Rattle.hp16c_commands.specs.Check.{CheckAnswers}
+use Rattle.hp16c_commands.specs.Routines.{asm_answer, list_answer}
+use Rattle.hp16c_commands.specs.Replays.{replay_answer}
+use Rattle.hp16c_commands.specs.Judging.{JudgeAnswers}
+use Rattle.hp16c_commands.specs.Checking.{CheckAnswers}
 
 -- the greatest input, in bytes
 abbrev pub limit_of : WholeInput → ℕ

@@ -1,4 +1,5 @@
-// Lines that follow a problem, counted over the whole text.
+//! The number of a line of what follows a problem, counted over the whole text, for the commands
+//! that read more than a problem.
 ghost use Rattle.std.specs.Prelude.{◌≡◌, ◌+◌, ◌<◌, ◌≤◌, ◌^◌, length, take};
 ghost use Rattle.jd_text.specs.Lines.{lines_of};
 

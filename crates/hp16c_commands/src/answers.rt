@@ -1,5 +1,5 @@
-// What is answered for the bytes of a source. A problem with its certificate or start isn't made into a
-// text first: it is written piece by piece.
+//! How answers are made and written. A problem with its certificate or start isn't made into a text
+//! first: it is written piece by piece, so that a large certificate isn't held twice.
 ghost use Rattle.std.specs.Prelude.{◌≡◌, ℕ, true, take, IfOk, OnOk};
 ghost use Rattle.std.specs.String.{string_bytes};
 ghost use Rattle.std.specs.Io.KnownBytes.{Appends};

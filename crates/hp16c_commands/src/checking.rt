@@ -1,10 +1,11 @@
-// The command `check`.
+//! The command `check`: what the check of a source says, as a text and an outcome. `jd_checking`
+//! reads and checks; only its answer is held here.
 ghost use Rattle.std.specs.Prelude.{◌≡◌, ◌+◌, ◌≤◌, IfOk, Err};
 ghost use Rattle.hp_io.specs.Causes.{CallsAtMost, Rose};
 ghost use Rattle.jd_model.specs.Problems.{Problem};
 ghost use Rattle.jd_trees.specs.Trees.{Tree};
 ghost use Rattle.jd_check.specs.Runs.{IsChecked};
-ghost use Rattle.hp16c_commands.specs.Check.{IsCheckOf, check_line};
+ghost use Rattle.hp16c_commands.specs.Checking.{IsCheckOf, check_line};
 ghost use Rattle.hp16c_commands.specs.Answered.{answer_of};
 ghost use Rattle.hp16c_commands.specs.WholeInputs.{limit_of, IsAnswer};
 ghost use Rattle.std.specs.String.{string_bytes};

@@ -1,4 +1,5 @@
-// The commands by their words.
+//! Which command the program's words name. Words that aren't exactly a command's are none, so that
+//! nothing is guessed.
 ghost use Rattle.std.specs.Prelude.{◌≡◌, map};
 ghost use Rattle.std.specs.String.{string_bytes};
 ghost use Rattle.hp16c_commands.specs.Commands.{command_of, generated_number};

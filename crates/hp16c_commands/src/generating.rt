@@ -1,10 +1,11 @@
-// The command `gen`.
+//! The command `gen`: makes the problem of a number and judges it. That no other judgement can come
+//! than Equal is a theorem about these problems, and the code relies on it.
 ghost use Rattle.std.specs.Prelude.{◌≡◌, ◌≢◌, ◌≤◌, true};
 ghost use Rattle.hp_io.specs.Causes.{Rose};
 ghost use Rattle.jd_generated.specs.Generated.{generated, summary};
 ghost use Rattle.jd_problem.specs.Problems.{problem_of};
 ghost use Rattle.jd_judge.specs.Judging.{IsEqual, IsJudged};
-ghost use Rattle.hp16c_commands.specs.Generate.{GenerateDid};
+ghost use Rattle.hp16c_commands.specs.Generating.{GenerateDid};
 ghost use Rattle.hp16c_commands.specs.WholeInputs.{is_fault};
 
 use crate::outcomes::{Kept, Outcome, Status};

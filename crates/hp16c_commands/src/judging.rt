@@ -1,9 +1,10 @@
-// The command `judge`.
+//! The command `judge`: reads a problem, after which only empty lines may stand, and gives the
+//! judge's answer as a text and what is kept.
 ghost use Rattle.std.specs.Prelude.{◌≡◌, ◌+◌, ◌<◌, ◌≤◌, ◌^◌, length, Ok, Err, IfOk, IfErr, OnOk};
 ghost use Rattle.jd_problem.specs.Problems.{problem_of};
 ghost use Rattle.jd_problem.specs.ProblemTexts.{IsProblemTo};
 ghost use Rattle.jd_judge.specs.Judging.{IsJudged};
-ghost use Rattle.hp16c_commands.specs.Judge.{JudgeAnswers, judge_input, IsJudgementOf, unknown_text, paths_text};
+ghost use Rattle.hp16c_commands.specs.Judging.{JudgeAnswers, judge_input, IsJudgementOf, unknown_text, paths_text};
 ghost use Rattle.hp16c_commands.specs.Answered.{answer_of};
 ghost use Rattle.hp16c_commands.specs.WholeInputs.{limit_of};
 ghost use Rattle.std.specs.String.{string_bytes};
@@ -27,7 +28,7 @@ struct EmptyLines;
 
 impl TakesLines for EmptyLines {
     ghost use Rattle.std.specs.Prelude.{Bool, false, ⊤};
-    ghost use Rattle.hp16c_commands.specs.Judge.{empty_line};
+    ghost use Rattle.hp16c_commands.specs.Judging.{empty_line};
 
     type Cause = ();
 

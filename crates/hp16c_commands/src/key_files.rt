@@ -1,10 +1,11 @@
-// The command `keys`.
+//! The command `keys`: the calculator over a source and a sink. A session writes each display as
+//! its line ends; a refused file gets one line more here.
 ghost use Rattle.std.specs.Prelude.{◌≡◌, ◌≢◌, ◌+◌, ◌≤◌, IfSome};
 ghost use Rattle.std.specs.Io.KnownBytes.{Appends};
 ghost use Rattle.hp_io.specs.Causes.{CallsAtMost, Rose};
 ghost use Rattle.hp_model.specs.Session.{byte_limit};
 ghost use Rattle.hp_session.specs.Ends.{WasStopped};
-ghost use Rattle.hp16c_commands.specs.Keys.{WasAnswered, WasCut, IfAnswer, keys_status, keys_text};
+ghost use Rattle.hp16c_commands.specs.KeyFiles.{WasAnswered, WasCut, IfAnswer, keys_status, keys_text};
 
 use crate::outcomes::Status;
 use crate::refusals::{write_bad_line, write_too_long};

@@ -1,4 +1,5 @@
-// The command `lrat`.
+//! The command `lrat`: what the checker of proofs says of a text, with the status that goes with
+//! its verdict.
 ghost use Rattle.std.specs.Prelude.{◌≡◌, ◌≤◌, length, IfOk};
 ghost use Rattle.hp16c_commands.specs.Lrat.{status_of_verdict, kept_of_verdict, lrat_answer};
 ghost use Rattle.hp16c_commands.specs.Answered.{answer_of};

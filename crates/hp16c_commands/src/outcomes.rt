@@ -1,6 +1,7 @@
-// What a command gives.
+//! What a command gives to whoever called it: the status, whose number the program ends with, and
+//! what is kept beside the text that was written.
 ghost use Rattle.std.specs.Prelude.{◌≡◌, is_ok, if◌then◌else◌};
-ghost use Rattle.hp16c_commands.specs.Statuses.{number_of};
+ghost use Rattle.hp16c_commands.specs.Outcomes.{number_of};
 
 use hp_io::Failed;
 use jd_cert::Cert;

@@ -1,7 +1,7 @@
-// Paths as they are printed: a digit for each answer.
+//! Paths as `judge` and `check` print them: a digit for each answer.
 ghost use Rattle.std.specs.Prelude.{◌≡◌, ◌<◌, ◌++◌, OnOk};
 ghost use Rattle.std.specs.String.{string_bytes};
-ghost use Rattle.hp16c_commands.specs.Paths.{answer_code, path_text};
+ghost use Rattle.hp16c_commands.specs.PathTexts.{answer_code, path_text};
 
 use std::alloc::AllocError;
 

@@ -1,4 +1,5 @@
-// The last line of a command whose input is refused.
+//! The last line of a command whose input is refused. It takes no memory, so that `keys` can write
+//! it too.
 ghost use Rattle.std.specs.Prelude.{◌≡◌, ℕ, ◌≤◌, take, length, OnOk};
 ghost use Rattle.std.specs.Io.KnownBytes.{Appends};
 ghost use Rattle.hp_io.specs.Causes.{HasCause};

@@ -1,4 +1,5 @@
-// The command `replay`.
+//! The command `replay`: reads a problem and then a start, runs both routines from it and tells
+//! what is seen of them.
 ghost use Rattle.std.specs.Prelude.{◌≡◌, ◌+◌, ◌<◌, ◌≤◌, ◌^◌, length, true, Ok, Err, IfOk, IfErr};
 ghost use Rattle.jd_model.specs.Problems.{allows};
 ghost use Rattle.jd_model.specs.Replays.{replay_input, replay_text, verdict};
@@ -9,7 +10,7 @@ ghost use Rattle.jd_start.specs.Starts.{start_data};
 ghost use Rattle.hp16c_commands.specs.Answers.{told};
 ghost use Rattle.hp16c_commands.specs.Answered.{answer_of};
 ghost use Rattle.hp16c_commands.specs.WholeInputs.{limit_of};
-ghost use Rattle.hp16c_commands.specs.Replay.{status_of_agreement, replay_answer};
+ghost use Rattle.hp16c_commands.specs.Replays.{status_of_agreement, replay_answer};
 
 use crate::after_problem::line_after;
 use crate::outcomes::{Outcome, Status};

@@ -1,7 +1,7 @@
-// The commands `asm` and `list`.
+//! The commands `asm` and `list`, which are each other's way back: a routine as assembly and as
+//! codes.
 ghost use Rattle.std.specs.Prelude.{◌≡◌, ◌≤◌, length, IfOk};
-ghost use Rattle.hp16c_commands.specs.Assemble.{asm_answer};
-ghost use Rattle.hp16c_commands.specs.List.{list_answer};
+ghost use Rattle.hp16c_commands.specs.Routines.{asm_answer, list_answer};
 ghost use Rattle.hp16c_commands.specs.Answered.{answer_of};
 ghost use Rattle.hp16c_commands.specs.WholeInputs.{limit_of};
 

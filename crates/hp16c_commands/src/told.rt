@@ -1,4 +1,5 @@
-// An answer: what a command tells, and how it ends.
+//! An answer before it is written: what a command tells, and how it ends. A start in it is one that
+//! its problem allows, which the writer of starts relies on.
 ghost use Rattle.std.specs.Prelude.{◌≡◌, true};
 ghost use Rattle.hp16c_commands.specs.Told.{is_writable};
 

@@ -1,11 +1,12 @@
-// The call that does what the words of the program ask for.
+//! The one call that does what the program's words ask for. All that the program promises is its
+//! contract; it changes nothing but the two streams.
 ghost use Rattle.std.specs.Prelude.{◌≡◌, ℕ, true, ◌+◌, ◌≤◌, ◌↔◌, map, Some, None, IfSome};
 ghost use Rattle.hp_io.specs.Causes.{CallsAtMost, Rose};
 ghost use Rattle.hp_model.specs.Session.{byte_limit};
 ghost use Rattle.hp16c_commands.specs.Commands.{AreWordsOf, IsNoCommand};
-ghost use Rattle.hp16c_commands.specs.Keys.{KeysDid, KeysTold, IfAnswer, keys_status};
+ghost use Rattle.hp16c_commands.specs.KeyFiles.{KeysDid, KeysTold, IfAnswer, keys_status};
 ghost use Rattle.hp16c_commands.specs.WholeInputs.{limit_of, Did, WasTold, IfGiven, can_end, is_fault};
-ghost use Rattle.hp16c_commands.specs.Generate.{GenerateDid};
+ghost use Rattle.hp16c_commands.specs.Generating.{GenerateDid};
 
 use crate::commands::Command;
 use crate::generating::generate_and_judge;

@@ -1,4 +1,6 @@
-// The commands that read their whole input before they answer.
+//! The commands that read their whole input before they answer: they have one form, a limit, the
+//! answer that is due to some bytes, and a function that finds it. What a fault gives is decided
+//! here, and the answer is written here, once for all of them.
 ghost use Rattle.std.specs.Prelude.{◌≡◌, ◌≢◌, true, Err, ◌+◌, ◌≤◌, length, IfSome, IfOk};
 ghost use Rattle.hp_io.specs.Causes.{CallsAtMost, Rose};
 ghost use Rattle.hp16c_commands.specs.WholeInputs.{limit_of, Answers, IsAnswerTo, IsAnswer};

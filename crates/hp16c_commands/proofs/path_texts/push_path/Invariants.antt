@@ -1,6 +1,6 @@
 use Rattle.std.proofs.Common.{◌≡◌, ◌++◌, map, take}
 use Rattle.std.specs.String.{string_bytes}
-use Rattle.hp16c_commands.specs.Paths.{answer_code}
+use Rattle.hp16c_commands.specs.PathTexts.{answer_code}
 use Rattle.hp16c_commands.proofs.path_texts.push_path.Given as goal
 
 abbrev pub invariant-loop-yes : goal.invariant-loop-yes

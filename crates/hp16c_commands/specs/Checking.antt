@@ -11,7 +11,7 @@ use Rattle.hp16c_commands.specs.declared.outcomes.Kept.TheVariants as kept
 use Rattle.hp16c_commands.specs.declared.outcomes.Status.{Status}
 use Rattle.hp16c_commands.specs.declared.outcomes.Status.TheVariants as status
 use Rattle.hp16c_commands.specs.Answers.{Answer, bad_line}
-use Rattle.hp16c_commands.specs.Paths.{path_text}
+use Rattle.hp16c_commands.specs.PathTexts.{path_text}
 
 -- a line of a name, a path and what follows
 abbrev pub check_line : List ℕ → List Bool → List ℕ → List ℕ

@@ -19,7 +19,7 @@ use Rattle.hp16c_commands.specs.declared.outcomes.Kept.TheVariants as kept
 use Rattle.hp16c_commands.specs.declared.outcomes.Status.{Status}
 use Rattle.hp16c_commands.specs.declared.outcomes.Status.TheVariants as status
 use Rattle.hp16c_commands.specs.Answers.{Answer, bad_line}
-use Rattle.hp16c_commands.specs.Paths.{path_text}
+use Rattle.hp16c_commands.specs.PathTexts.{path_text}
 
 -- after a problem a line is bad where it has a word
 abbrev pub empty_line : ⊤ → List (List ℕ) → Result ⊤ ⊤
