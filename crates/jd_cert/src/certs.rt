@@ -1,4 +1,6 @@
-//! Certificates as values, which are trees by their invariant, so that no writer has to look.
+//! Certificates as values, whose nodes are by their invariant exactly one tree with numbers in
+//! range. So the writer needn't look, and whoever makes one, the reader or the judge, has shown it
+//! before.
 ghost use Rattle.std.specs.Prelude.{◌≡◌};
 ghost use Rattle.jd_trees.specs.Trees.{IsCert};
 

@@ -1,4 +1,5 @@
-//! Why a text gives no certificate.
+//! Why the reading of a certificate stops: at a bad line, whose number a refusal can tell, or for
+//! want of memory. The two stay apart, since only the first says something of the text.
 use jd_lrat::NoMemory;
 use thiserror::Error;
 

@@ -1,4 +1,5 @@
-//! What the events of a certificate tell, kept: whoever wants the whole tree puts the events here.
+//! The whole tree, put together from events, which the reader of lines doesn't keep. The reading of
+//! a whole text rests on it, and the judge makes its own leaves and cuts by the same `node`.
 ghost use Rattle.std.specs.Prelude.{◌≡◌, OnOk};
 ghost use Rattle.jd_logic.specs.Ranges.{AreLines};
 ghost use Rattle.jd_trees.specs.Trees.{IsNode, node};

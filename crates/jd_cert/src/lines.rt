@@ -1,5 +1,5 @@
 //! What a line of a certificate says at a spot, and the spot after it. Nothing but the spot is
-//! changed.
+//! changed, and only a line of a proof, which `jd_lrat` reads, takes memory.
 ghost use Rattle.std.specs.Prelude.{◌≡◌, ◌+◌, ◌<◌, ◌≤◌, ◌^◌, false};
 ghost use Rattle.jd_text.specs.Words.{words_of};
 ghost use Rattle.jd_trees.specs.CertLines.{said, is_whole, spoken_line, begun_line, first_line, tree_line, log_line, proof_line};

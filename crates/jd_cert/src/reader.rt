@@ -1,5 +1,5 @@
-//! The reader of a certificate's lines: the spot, the number of lines, and the first fault, which
-//! it meets for ever.
+//! Takes a certificate's lines as they come, so that a check needs neither the text nor the tree:
+//! between lines it has the spot, their number, and the first fault, which it meets for ever.
 ghost use Rattle.std.specs.Prelude.{◌≡◌, ◌+◌, ◌<◌, ◌^◌};
 ghost use Rattle.jd_text.specs.Words.{words_of};
 ghost use Rattle.jd_trees.specs.CertLines.{is_whole};

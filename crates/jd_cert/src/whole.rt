@@ -1,4 +1,5 @@
-//! The reading of a whole text: the reader of lines over its lines, and what they tell kept.
+//! The certificate that a whole text is, read by the reader of lines, so that the grammar stands in
+//! one place. What the lines tell is kept, and a text that ends too early is refused.
 ghost use Rattle.std.specs.Prelude.{◌+◌, ◌<◌, ◌^◌, length};
 ghost use Rattle.jd_trees.specs.CertTexts.{certificate_of};
 ghost use Rattle.jd_cert.specs.Certs.{IsRead};

@@ -1,4 +1,6 @@
-//! Lines of words that are always the same.
+//! Tells the lines of a certificate whose words are always the same, such as the first one and the
+//! ends of leaves. Only words are compared, so blanks between them don't matter, and no memory is
+//! taken.
 ghost use Rattle.std.specs.Prelude.{◌≡◌, ◌≤◌, ◌∷◌, [], length};
 ghost use Rattle.jd_text.specs.Words.{words_of, are_texts};
 ghost use Rattle.jd_text.specs.Places.{words_at};

@@ -1,5 +1,5 @@
-//! The canonical text of a certificate, written node by node. It takes no memory, and what is
-//! written reads back.
+//! The canonical text of a certificate, by which the program hands out what the judge found. It
+//! goes to a sink node by node, over a page, takes no memory, and reads back as the same nodes.
 ghost use Rattle.std.specs.Prelude.{◌≡◌, ℕ, take, flat_map, Ok, OnOk};
 ghost use Rattle.std.specs.Io.KnownBytes.{Appends};
 ghost use Rattle.hp_io.specs.Causes.{HasCause};

@@ -1,4 +1,5 @@
-//! What a check answers.
+//! What a check answers. All answers but Shape come with the book that the check kept, since what
+//! they say is said of its leaves.
 use jd_logic::BadLine;
 use jd_walk::{Book, Path};
 

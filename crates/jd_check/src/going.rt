@@ -1,4 +1,5 @@
-//! A check between two events.
+//! A check between two events: what is known of the nodes before, and which of them is still open.
+//! `turns` changes it, one event at a time.
 ghost use Rattle.std.specs.Prelude.{◌≡◌, false};
 
 use crate::progress::{Open, Progress};

@@ -1,4 +1,5 @@
-//! What follows from a check's answers.
+//! What follows from a check's answers, as functions without a body: whoever has an answer cites
+//! them, and nothing here runs.
 ghost use Rattle.jd_check.specs.Laws.{OneRightAnswer, Sound};
 
 /// Where Equal is answered, all allowed starts agree.

@@ -1,4 +1,6 @@
-//! The lines of a leaf or a cut, checked one after another.
+//! The lines of a leaf or a cut, checked one after another by the checker of proofs. The first bad
+//! one is kept, and later lines are only counted: the tree is still looked at, since one that
+//! doesn't cover goes before a bad line.
 ghost use Rattle.std.specs.Prelude.{◌≡◌, ◌+◌, ◌<◌, ◌^◌, ◌∷◌, List, IfOk, OnOk};
 ghost use Rattle.jd_logic.specs.declared.Line.{Line};
 ghost use Rattle.jd_logic.specs.Checking.{begun};

@@ -1,4 +1,5 @@
-//! The nodes of a certificate, one after another.
+//! The nodes of a certificate, one after another: the walk tells whether a node may stand where it
+//! does, and goes on to the next place. Each leaf and cut adds its leaf to the book.
 ghost use Rattle.std.specs.Prelude.{◌≡◌, ◌∷◌, ◌++◌, [], List, false, true, None, Some, IfOk, OnOk};
 ghost use Rattle.jd_logic.specs.declared.Line.{Line};
 ghost use Rattle.jd_model.specs.Problems.{Problem};

@@ -1,4 +1,5 @@
-//! How far a check has come.
+//! What a check keeps of the nodes that it has taken: the walk, the book, and the first fault of
+//! each kind. The answer is made of it once the tree is whole.
 ghost use Rattle.jd_model.specs.Problems.{Problem};
 ghost use Rattle.jd_trees.specs.Trees.{Tree};
 ghost use Rattle.jd_check.specs.Runs.{IsChecked, IsTakenOf};

@@ -1,4 +1,5 @@
-//! A check in progress.
+//! A check that others hold and hand events to, as a reader of lines does. It keeps no event; once
+//! memory ran out it says so to every call.
 ghost use Rattle.std.specs.Prelude.{◌≡◌, ◌∷◌, ◌++◌, [], List, false, true, IfOk, OnErr, OnOk};
 ghost use Rattle.jd_model.specs.Problems.{Problem as ProblemOf};
 ghost use Rattle.jd_problem.specs.Problems.{problem_of};

@@ -1,4 +1,5 @@
-//! A check's turn by an event.
+//! What an event makes of a check: a node opened, a line checked, a node ended. No event is looked
+//! at once the tree is whole or doesn't cover.
 ghost use Rattle.std.specs.Prelude.{◌≡◌, ◌∷◌, ◌++◌, ◌||◌, [], List, false, is_some, IfOk};
 ghost use Rattle.jd_model.specs.Problems.{Problem};
 ghost use Rattle.jd_trees.specs.declared.CertEvent.{CertEvent};

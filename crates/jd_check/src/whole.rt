@@ -1,4 +1,5 @@
-//! The check of a whole certificate.
+//! The check of a certificate that is there as a whole: its nodes are told as events, so that both
+//! ways have one check.
 ghost use Rattle.std.specs.Prelude.{◌≡◌, ◌++◌, List, IfOk, OnOk};
 ghost use Rattle.jd_model.specs.Problems.{Problem as ProblemOf};
 ghost use Rattle.jd_problem.specs.Problems.{problem_of};

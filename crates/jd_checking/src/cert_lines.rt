@@ -1,4 +1,5 @@
-//! The lines of a certificate, one after another: each is read, and what it tells is checked.
+//! The lines of a certificate, one after another: each is read by the reader of certificates, and
+//! what it tells is handed to the check at once, so that no list of lines is kept.
 ghost use Rattle.std.specs.Prelude.{◌∷◌, ◌++◌, ◌+◌, ◌<◌, ◌^◌, [], ℕ, List, IfOk, IfErr, OnOk};
 ghost use Rattle.jd_model.specs.Problems.{Problem};
 ghost use Rattle.jd_text.specs.Words.{words_of};

@@ -1,4 +1,5 @@
-//! The lines of a source as a certificate.
+//! The lines that a source has left, taken as a certificate up to the first bad one. The check is
+//! let go there, since a bad line goes before all that a check says.
 ghost use Rattle.std.specs.Prelude.{◌+◌, ◌<◌, ◌^◌, length, IfOk};
 ghost use Rattle.jd_problem.specs.Problems.{problem_of};
 ghost use Rattle.jd_checking.specs.CertChecks.{IsRestChecked};

@@ -1,4 +1,5 @@
-//! What is answered.
+//! What is answered of a source: the first line outside the grammar, or what the check of the
+//! certificate says.
 use jd_check::Checked;
 
 /// What a check of a source's problem and certificate says.

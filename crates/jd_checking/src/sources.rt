@@ -1,4 +1,6 @@
-//! A problem and a certificate that a source holds, one after the other.
+//! A problem and a certificate that a source holds, one after the other. Lines are counted over
+//! both, and the source is read to its end whatever they say, since too many bytes go before a bad
+//! line.
 ghost use Rattle.std.specs.Prelude.{◌≡◌, ◌+◌, ◌<◌, ◌≤◌, ◌^◌, length, Err, IfOk, OnErr};
 ghost use Rattle.hp_io.specs.Causes.{CallsAtMost, Rose};
 ghost use Rattle.hp_io.specs.Limited.{Takes, TakesAtMost};

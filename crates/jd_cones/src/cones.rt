@@ -1,4 +1,6 @@
-//! The cone of a leaf.
+//! A walk's circuit may have gates that neither guards nor difference stand on, and a book would
+//! keep them all. Here the marks and the new numbers make the leaf without them, with the same path
+//! and inputs.
 ghost use Rattle.std.specs.Prelude.{IfOk};
 ghost use Rattle.jd_cones.specs.Cones.{IsConeOf};
 ghost use Rattle.jd_leaves.specs.Views.{leaf_of};

@@ -1,4 +1,6 @@
-//! New numbers for the variables that are needed, and the gates that are kept under them.
+//! The needed gates in their order, with numbers that leave no gap behind the inputs. It relies on
+//! marks that are closed: where a gate is kept, its arguments are kept too and have their numbers
+//! already.
 ghost use Rattle.std.specs.Prelude.{◌≡◌, ◌+◌, ◌<◌, ◌^◌, [], ◌∷◌, ◌++◌, All, IfOk, OnOk, length, map};
 ghost use Rattle.jd_circuit.specs.Net.{IsLit, IsGateOf, IsWired};
 ghost use Rattle.jd_cones.specs.Marks.{IsClosed};

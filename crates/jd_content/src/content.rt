@@ -1,4 +1,5 @@
-//! What operations work on, as literals: the words, the flags and the register nibbles.
+//! The data of a symbolic machine, each bit a literal of a circuit. Operations change them and
+//! questions read them; a walk copies them at an answer of no, so that it can come back for yes.
 ghost use Rattle.std.specs.Prelude.{◌≡◌, IfOk};
 
 use crate::nibbles::NibbleLits;

@@ -1,4 +1,5 @@
-//! Digit entry. The number that a digit makes is known from control, so X becomes a constant.
+//! Digit entry adds no gate, since control knows the number that a digit makes: X becomes a
+//! constant. Whether the digit is ignored, and whether the stack is lifted, depends on control too.
 ghost use Rattle.std.specs.Prelude.{◌≡◌, ℕ, Bool, List};
 ghost use Rattle.hp_model.specs.DataStep.{changed};
 ghost use Rattle.hp_model.specs.Operations as ops;

@@ -1,4 +1,5 @@
-//! Flags. Those that operations set or clear by themselves become constants.
+//! The six flags as literals. To set or clear one puts a constant in its place and a test changes
+//! none, so no gate is added; questions, rotations and the difference of two runs read flags here.
 ghost use Rattle.std.specs.Prelude.{◌≡◌, ℕ, ◌<◌, Bool, List, Some, map, slice_get, slice_set};
 ghost use Rattle.jd_circuit.specs.Meaning.{lit_value};
 ghost use Rattle.hp_model.specs.State.{Control as ControlState, flag as flag_of};

@@ -1,4 +1,5 @@
-//! Moves of the stack, and answers put into the content.
+//! Moves of whole words, without a gate, that save X, bring an answer to X and the flags, and drop
+//! or lift the stack. `jd_operations` puts its answers so, and digits and recalls push so.
 ghost use Rattle.std.specs.Prelude.{◌≡◌, ℕ, ◌+◌, ◌-◌, ◌*◌, ◌^◌, ◌<◌, ◌≤◌, Bool, List, length, map, if◌then◌else◌};
 ghost use Rattle.jd_circuit.specs.Meaning.{lit_value};
 ghost use Rattle.hp_model.specs.DataStep.{answered, lifted, of_three, of_two, of_x, with_x};

@@ -1,5 +1,6 @@
-//! The nibbles of registers, four literals each, in one list: another word size divides the same list
-//! anew.
+//! The nibbles of registers as one list, four literals each, so that a new word size moves nothing
+//! and only divides the list anew. Registers are read and written in it, and `jd_difference`
+//! compares two.
 ghost use Rattle.std.specs.Prelude.{◌≡◌, ℕ, ◌+◌, ◌-◌, ◌*◌, ◌^◌, ◌<◌, ◌≤◌, List, length, slice_range, take, drop, ◌++◌, replicate, false, IfOk};
 
 use jd_circuit::{Lit, NoMemory};

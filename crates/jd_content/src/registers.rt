@@ -1,5 +1,6 @@
-//! Registers of literals. Which one is meant is known from the answers, so reading and writing add
-//! no gate.
+//! Registers of literals, stored, recalled, exchanged with X or cleared. The operation, or the
+//! answers that it was given, say which one is meant, so literals are only copied and no gate is
+//! added.
 ghost use Rattle.std.specs.Prelude.{◌≡◌, ℕ, ◌+◌, ◌*◌, ◌/◌, ◌^◌, ◌<◌, ◌≤◌, Bool, List, length};
 ghost use Rattle.hp_model.specs.Operations as ops;
 ghost use Rattle.hp_model.specs.State.{Control as ControlState, large_bytes, width as width_of};

@@ -1,4 +1,6 @@
-//! Words of another size: cut, or with zeros above.
+//! Words cut, or given zeros above, without a gate. A new word size needs that for the stack and
+//! LAST X; registers, loop counts, assumptions and the difference need it where words of two sizes
+//! meet.
 ghost use Rattle.std.specs.Prelude.{◌≡◌, ℕ, ◌+◌, ◌-◌, ◌*◌, ◌%◌, ◌^◌, ◌<◌, ◌≤◌, Bool, List, length, None, false};
 ghost use Rattle.hp_model.specs.Operations as ops;
 ghost use Rattle.hp_model.specs.State.{Control as ControlState};

@@ -1,4 +1,5 @@
-//! The operations that move the stack: they exchange whole words.
+//! The operations that only move the stack's words or clear X. They copy literals from place to
+//! place, so no gate is added; control says whether LAST X lifts, and how wide a cleared X is.
 ghost use Rattle.std.specs.Prelude.{◌≡◌, ℕ, Bool, List};
 ghost use Rattle.hp_model.specs.DataStep.{changed};
 ghost use Rattle.hp_ops.specs.Meaning.{of_stack};

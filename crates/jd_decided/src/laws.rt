@@ -1,4 +1,6 @@
-//! What is proved of leaves and of a prover's answers.
+//! What lets the judge ask a prover of a leaf and believe it: the inputs decide the clauses, a
+//! model gives a value to every variable, and the lines of a refutation are right and end in the
+//! empty clause.
 ghost use Rattle.jd_decided.specs.Laws.{LeavesAreDecided, ModelsAreValues, RefutationsCheck};
 
 /// Once the inputs of a leaf have values, unit propagation over its clauses gives every variable a

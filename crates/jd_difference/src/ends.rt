@@ -1,4 +1,6 @@
-//! Whether two runs are seen the same, by their ends and by the contents there.
+//! What a walk says when both runs are over. Where one is late or their ends differ, the literal is
+//! true and needs no gate; else it stands on the observed numbers and, where M is observed, the
+//! nibbles.
 ghost use Rattle.std.specs.Prelude.{◌≡◌, ℕ, ◌+◌, ◌^◌, ◌<◌, ◌≤◌, Bool, not, length, IfOk, OnOk};
 ghost use Rattle.jd_model.specs.Seen.{agree_on};
 ghost use Rattle.jd_problem.specs.Problems.{problem_of};

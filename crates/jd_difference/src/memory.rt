@@ -1,4 +1,5 @@
-//! The register nibbles of two contents.
+//! One literal for all register nibbles, compared four bits at a time. `ends` asks for it where a
+//! problem observes M; both runs have as many nibbles, since memory and blocks are the problem's.
 ghost use Rattle.std.specs.Prelude.{◌≡◌, ◌==◌, ℕ, ◌+◌, ◌-◌, ◌*◌, ◌^◌, ◌<◌, ◌≤◌, Bool, bytes_eq, length, IfOk};
 ghost use Rattle.jd_circuit.specs.Meaning.{lit_value};
 ghost use Rattle.jd_circuit.specs.Net.{Grows, IsOf, Solves};

@@ -1,4 +1,6 @@
-//! The observed numbers of two contents.
+//! One literal for the words, the index register and the flags that a problem observes. Each is
+//! widened to 64 literals first, so contents of different word sizes compare as numbers; `ends`
+//! joins it with the memory.
 ghost use Rattle.std.specs.Prelude.{◌≡◌, ℕ, ◌+◌, ◌*◌, ◌^◌, ◌-◌, ◌<◌, ◌≤◌, Bool, length, slice_index, IfOk};
 ghost use Rattle.hp_model.specs.State.{flag as flag_of};
 ghost use Rattle.hp_model.specs.WordOperations.{bit_number};

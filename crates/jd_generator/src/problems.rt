@@ -1,4 +1,5 @@
-// The problem of a number.
+//! The problem of a number, with its two routines. It is small enough that the judge always decides
+//! it: 8 free bits, two paths, and a budget that suffices for them.
 ghost use Rattle.std.specs.Prelude.{◌≡◌, ◌∷◌, [], true, false, map, replicate, Some, None};
 ghost use Rattle.hp_model.specs.Codes.{code_of};
 ghost use Rattle.hp_model.specs.Operations as ops;

@@ -1,4 +1,6 @@
-//! The literals of what a problem assumes. Patterns are compared as whole numbers.
+//! A walk needs one literal for each assumption of a problem, whether it holds of the start. Parts
+//! are compared as whole numbers of 64 literals, with zeros above, so that words and the index
+//! register can meet.
 ghost use Rattle.std.specs.Prelude.{◌≡◌, ℕ, ◌+◌, ◌^◌, ◌<◌, ◌≤◌, Bool, IfOk, length, map};
 ghost use Rattle.jd_model.specs.Assumptions.{against_value, holds, part_value, relates};
 ghost use Rattle.jd_problem.specs.Problems.{problem_of};

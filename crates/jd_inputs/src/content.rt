@@ -1,4 +1,6 @@
-//! The content of literals with which a run begins.
+//! The data with which each symbolic run begins, for all starts of a problem at once. Words, flags
+//! and nibbles take inputs in the order of a start's bits, so that both runs share them and no gate
+//! is needed.
 ghost use Rattle.std.specs.Prelude.{◌≡◌, ℕ, ◌+◌, ◌*◌, ◌<◌, ◌≤◌, Bool, IfOk, List, drop, length};
 ghost use Rattle.jd_model.specs.Problems.{free_bits, free_widths, nibble_count, nibble_fields, numbers_in, start_of};
 ghost use Rattle.jd_problem.specs.Problems.{problem_of};

@@ -1,4 +1,5 @@
-//! The literals of a start's nibbles.
+//! At a start the register nibbles are all free, or all zero where a problem fixes memory. Free
+//! ones take the inputs after those of words and flags, four each; neither kind needs a gate.
 ghost use Rattle.std.specs.Prelude.{◌≡◌, ℕ, ◌+◌, ◌*◌, ◌^◌, ◌<◌, ◌≤◌, ◌++◌, ◌∷◌, [], Bool, IfOk, List, drop, false, length, replicate};
 ghost use Rattle.jd_model.specs.Problems.{numbers_in};
 ghost use Rattle.jd_circuit.specs.Net.{at};

@@ -1,4 +1,6 @@
-//! The literals of the numbers of a start, taken one after another.
+//! Each word or flag of a start takes the next inputs where a problem leaves it free, and is a
+//! constant where it's fixed. The count of inputs taken goes along, so that parts follow the order
+//! of bits.
 ghost use Rattle.std.specs.Prelude.{◌≡◌, ℕ, ◌+◌, ◌^◌, ◌≤◌, Bool, List, drop, length};
 ghost use Rattle.jd_model.specs.Problems.{field, free_width, number_in_field, part_limit};
 ghost use Rattle.jd_start.specs.Parts.{place_of};

@@ -1,4 +1,5 @@
-//! The judge.
+//! The judge itself: it begins a walk at the empty path and takes one step after another until a
+//! step has the answer. What a step may do is `steps`'; this file relies on its clause alone.
 ghost use Rattle.std.specs.Prelude.{IfOk};
 ghost use Rattle.jd_problem.specs.Problems.{problem_of};
 ghost use Rattle.jd_judge.specs.Judging.{IsJudged};

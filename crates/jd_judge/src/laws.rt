@@ -1,4 +1,5 @@
-//! What follows from the judge's answers.
+//! What follows from the judge's answers, as functions without a body: whoever has an answer cites
+//! them, and nothing here runs.
 ghost use Rattle.jd_judge.specs.Laws.{FewPaths, Sound, Completeness};
 
 /// Where Equal is answered, all allowed starts agree.

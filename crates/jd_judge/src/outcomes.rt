@@ -1,4 +1,5 @@
-//! What the judge answers, and how far it has come.
+//! What the judge answers, and what it has gathered on the way there. The two stand together, since
+//! an answer is made by taking what was gathered apart.
 ghost use Rattle.std.specs.Prelude.{◌≡◌};
 ghost use Rattle.jd_trees.specs.Trees.{IsCert};
 

@@ -1,4 +1,5 @@
-//! Lists of starts.
+//! Lists of starts, for the judge's count of paths: the starts of the leaves so far have answers of
+//! their own, so that one more than the problem has paths is an answer.
 ghost use Rattle.std.specs.Prelude.{◌≡◌, ◌∷◌, ◌++◌, [], length, map, OnErr, OnOk};
 ghost use Rattle.jd_start.specs.Starts.{start_data};
 

@@ -1,4 +1,6 @@
 //! The judge's steps: at a path that was just entered, at a question, and at the end of both runs.
+//! They ask the prover of each leaf and cut, add a node where it is refuted, and leave the walk at
+//! the next path.
 ghost use Rattle.std.specs.Prelude.{◌≡◌, ◌≢◌, ◌<◌, ◌≤◌, ◌↔◌, [], length, true, Some, IfOk, IsTrue, OnOk};
 ghost use Rattle.jd_model.specs.Problems.{Problem as ProblemOf, IsProblem, free_bits, start_of};
 ghost use Rattle.jd_problem.specs.Problems.{problem_of};

@@ -1,5 +1,6 @@
 //! What a conflict teaches: the first unique implication point and the earlier literals that lead
-//! to the conflict with it, with hints that show the clause of their negations.
+//! to the conflict with it, with hints that show the clause of their negations. `learning` makes a
+//! line of these.
 ghost use Rattle.std.specs.Prelude.{◌≡◌, ◌+◌, ◌<◌, ◌^◌, IfOk, MatchOption, OnOk, length, slice_index_or, pos};
 ghost use Rattle.jd_logic.specs.Literals.{IsLiteral};
 ghost use Rattle.jd_propagate.specs.Hints.{IsFalseBy};

@@ -1,4 +1,6 @@
-//! The way back to where a taught line gives something, and the line as one more clause.
+//! The way back from a conflict, and what it taught as a line, which is watched as one more clause
+//! or is a single literal. It's looked at first whether the line gives something, since it must be
+//! new.
 ghost use Rattle.std.specs.Prelude.{◌≡◌, ◌⊎◌, ℕ, ◌+◌, ◌-◌, ◌<◌, ◌^◌, ℤ, neg_ℤ, [], ◌∷◌, false, MatchBool, IfOk, OnOk, length, take, slice_index};
 ghost use Rattle.jd_logic.specs.Literals.{IsLiteral, AreLiterals, AreHints, has};
 ghost use Rattle.jd_proving.specs.Propagation.{has_value};

@@ -1,4 +1,6 @@
-//! The learning search.
+//! The learning search, which the judge asks: each conflict gives a line, and the search goes back
+//! to where that makes a literal true. Where that gives nothing, or a sufficient budget is spent,
+//! the plain search answers.
 ghost use Rattle.std.specs.Prelude.{◌≡◌, ℕ, ◌+◌, ◌-◌, ◌<◌, ◌≤◌, ◌^◌, [], pos, false, true, Some, None, IfOk, OnOk, MatchBool, MatchOption, length};
 ghost use Rattle.std.specs.List.{list_any};
 ghost use Rattle.jd_logic.specs.Literals.{IsLiteral, AreHints};

@@ -1,4 +1,5 @@
-//! The clauses of a leaf.
+//! A leaf in the form that the judge's prover and the check of proof lines take: three or four
+//! clauses for each gate, and at most one for each guard and for the difference.
 ghost use Rattle.std.specs.Prelude.{◌≡◌, ◌-◌, ◌<◌, ◌^◌, ◌++◌, ◌∷◌, [], IfOk, OnOk};
 ghost use Rattle.jd_logic.specs.Literals.{IsLiteral};
 ghost use Rattle.jd_circuit.specs.Net.{IsArgument, IsArgumentGate, IsLit};

@@ -1,4 +1,5 @@
-//! Leaves.
+//! What is left of a walk at the end of a path, and all that a refutation needs. Its facts keep
+//! variables below 2^31, so `clauses` can write each as an i32.
 ghost use Rattle.std.specs.Prelude.{◌+◌, ◌<◌, ◌^◌, ◌∷◌, ◌++◌, [], All, length};
 ghost use Rattle.std.proofs.Props.{props};
 ghost use Rattle.jd_circuit.specs.Net.{IsLit, IsWired};

@@ -1,4 +1,5 @@
-//! Paths, guards and books. Each is made from a vector and takes no memory by itself.
+//! Vectors with names of their own, so that contracts see a plain list: the answers and guards of a
+//! leaf, and the book that keeps the leaves of a judgement or a check in order.
 ghost use Rattle.std.specs.Prelude.{◌≡◌, ◌∷◌, ◌++◌, [], length, map, IfOk, OnErr, OnOk};
 ghost use Rattle.jd_leaves.specs.Views.{leaf_of};
 

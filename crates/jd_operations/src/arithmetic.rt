@@ -1,4 +1,5 @@
-//! Arithmetic on Y and X, or on X alone: which row answers, and where the answer goes.
+//! Arithmetic on Y and X, or on X alone. Circuits of `jd_rows` and `jd_products` make the answer,
+//! and the operation says whether X is saved and the stack drops before the answer goes to X.
 ghost use Rattle.std.specs.Prelude.{◌≡◌, ℕ, ◌+◌, ◌-◌, ◌^◌, ◌<◌, ◌≤◌, Bool, IfOk, List, length};
 ghost use Rattle.hp_ops.specs.Meaning.{of_arithmetic};
 ghost use Rattle.jd_circuit.specs.Net.{Grows, Solves, variables};

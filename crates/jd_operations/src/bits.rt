@@ -1,4 +1,5 @@
-//! Masks, the count of ones, and single bits of Y: which row answers, and where the answer goes.
+//! Masks, the count of ones, and single bits of Y where X says, over circuits of `jd_places`. A
+//! test of a bit adds no gate, since a question answers it, and Y goes to X unchanged.
 ghost use Rattle.std.specs.Prelude.{◌≡◌, ℕ, ◌+◌, ◌-◌, ◌*◌, ◌^◌, ◌<◌, ◌≤◌, Bool, IfOk, List, length};
 ghost use Rattle.hp_model.specs.Words.{magnitude};
 ghost use Rattle.hp_model.specs.WordOperations.{mask_left_pattern, mask_right_pattern, plain, with_bit, without_bit};

@@ -1,4 +1,6 @@
-//! The double functions, whose product or dividend has two words.
+//! The double functions, for which two words of the stack make one number. `jd_products` has their
+//! circuits; a product goes to X and Y and clears the range flag, while a quotient or remainder
+//! drops the stack twice.
 ghost use Rattle.std.specs.Prelude.{◌≡◌, ℕ, ◌+◌, ◌-◌, ◌*◌, ◌^◌, ◌<◌, ◌≤◌, Bool, IfOk, List, length};
 ghost use Rattle.hp_model.specs.Operations as ops;
 ghost use Rattle.hp_model.specs.WordOperations.{double_quotient_of, double_remainder_of};

@@ -1,4 +1,5 @@
-//! Logic on each bit, which the literals answer one by one.
+//! Logic on X, or on Y and X, bit by bit. Inverting a word needs no gate, since each literal has
+//! its opposite; joining two needs at most one gate for each bit. The answer goes to X.
 ghost use Rattle.std.specs.Prelude.{◌≡◌, ℕ, ◌+◌, ◌-◌, ◌^◌, ◌<◌, ◌≤◌, Bool, IfOk, List, length};
 ghost use Rattle.hp_model.specs.WordOperations.{plain};
 ghost use Rattle.hp_ops.specs.Meaning.{of_logic};

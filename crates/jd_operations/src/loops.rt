@@ -1,4 +1,6 @@
-//! Counting in the index register, which stays a word of 64 bits.
+//! A loop's count in the index register, which `jd_comparisons` makes one less or one more at the
+//! word size. The register keeps 64 literals, with zeros above; whether the count is zero is asked
+//! by `jd_questions`.
 ghost use Rattle.std.specs.Prelude.{◌≡◌, ◌+◌, ◌-◌, ◌^◌, ◌<◌, ◌≤◌, Bool, IfOk, List, length};
 ghost use Rattle.hp_ops.specs.Meaning.{of_loop};
 ghost use Rattle.jd_circuit.specs.Net.{Grows, variables};

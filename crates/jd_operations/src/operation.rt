@@ -1,4 +1,6 @@
-//! The operation of any group.
+//! The one call by which a symbolic machine does an operation of any group to its data, where the
+//! operation doesn't err. It relies on the answers given; tests, jumps and windows leave the data
+//! as they are.
 ghost use Rattle.std.specs.Prelude.{◌≡◌, ℕ, ◌+◌, ◌-◌, ◌*◌, ◌/◌, ◌^◌, ◌<◌, ◌≤◌, Bool, IfOk, length};
 ghost use Rattle.hp_ops.specs.Meaning.{of_registers, of_setting, operation};
 ghost use Rattle.hp_control.specs.Controls.{size_after};

@@ -1,4 +1,6 @@
-//! Rotations by one place, and by as many as X says.
+//! Rotations of X by one place, which only move literals, and of Y by as many places as X says,
+//! which `jd_places` and `jd_turns` make as circuits. The carry is read from flag 4 and put back
+//! there.
 ghost use Rattle.std.specs.Prelude.{◌≡◌, ℕ, ◌+◌, ◌-◌, ◌*◌, ◌^◌, ◌<◌, ◌≤◌, Bool, IfOk, List, length};
 ghost use Rattle.hp_model.specs.Operations as ops;
 ghost use Rattle.hp_model.specs.WordOperations.{rotated_of, turned_times};

@@ -1,4 +1,5 @@
-//! Shifts by one place, and left justification.
+//! Shifts of X by one place only move literals, so they need no gate. Left justification needs a
+//! circuit of `jd_places`, and lifts the stack, since it gives both a word and the count of places.
 ghost use Rattle.std.specs.Prelude.{◌≡◌, ℕ, ◌+◌, ◌-◌, ◌*◌, ◌^◌, ◌<◌, ◌≤◌, Bool, IfOk, List, length};
 ghost use Rattle.hp_model.specs.Operations.{left_justify};
 ghost use Rattle.hp_ops.specs.Meaning.{of_shift};

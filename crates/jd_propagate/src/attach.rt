@@ -1,4 +1,6 @@
-//! Clauses that are to be watched.
+//! How a clause given or a learned line comes to be watched: it goes behind the other clauses and
+//! into the lists of two literals. Each of its literals gets a list, so that propagation can watch
+//! any later.
 ghost use Rattle.std.specs.Prelude.{◌≡◌, ◌≢◌, ℕ, ℤ, ◌+◌, ◌<◌, ◌≤◌, ◌++◌, ◌∷◌, [], MatchBool, MatchOption, OnOk, length};
 ghost use Rattle.jd_logic.specs.Literals.{AreLiterals};
 ghost use Rattle.jd_propagate.specs.Lists.{list_at};

@@ -1,4 +1,5 @@
-//! The answers of a search for a proof.
+//! What both searches answer, a refutation, a model or the budget's new lines, so that whoever asks
+//! needn't know which one did: the learning search hands on an answer of the plain one as it is.
 use crate::{Bits, Log};
 
 /// What a search for a proof answers.

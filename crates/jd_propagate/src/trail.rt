@@ -1,4 +1,5 @@
-//! True literals in the order made true.
+//! True literals in the order made true, each with a mark at its key, so that a literal's value is
+//! found without a search. No literal stands beside its negation, and going back cuts the end off.
 ghost use Rattle.std.specs.Prelude.{◌≡◌, ℕ, ◌+◌, ◌-◌, ◌^◌, ◌<◌, ◌≤◌, ℤ, neg_ℤ, [], ◌∷◌, ◌++◌, true, false, OnOk, length, take, slice_index_or};
 ghost use Rattle.jd_logic.specs.Literals.{IsLiteral, AreLiterals, has};
 ghost use Rattle.jd_proving.specs.Propagation.{has_value};

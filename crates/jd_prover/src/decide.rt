@@ -1,4 +1,6 @@
-//! Decisions, and the way back from them.
+//! How the plain search tries both values of an input: it decides that it's false, and after a
+//! conflict makes it true by the line. What looks at the values of inputs serves the learning
+//! search too.
 ghost use Rattle.std.specs.Prelude.{◌≡◌, ◌+◌, ◌-◌, ◌<◌, ◌≤◌, ◌^◌, ◌++◌, ◌∷◌, [], ℕ, pos, neg_ℤ, true, false, MatchOption, IfOk, OnOk, length, slice_index_or};
 ghost use Rattle.jd_logic.specs.Literals.{IsLiteral, has};
 ghost use Rattle.jd_proving.specs.Propagation.{has_value};

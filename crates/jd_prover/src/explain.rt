@@ -1,4 +1,6 @@
-//! Hints that lead to a conflict.
+//! Hints that lead from the decisions to a conflict, found from the end of the trail backwards by
+//! reasons, so that what the conflict doesn't rest on is left out. The learning search takes the
+//! same steps.
 ghost use Rattle.std.specs.Prelude.{◌≡◌, ◌+◌, ◌<◌, ◌^◌, ℕ, ℤ, pos, neg_ℤ, true, false, IfOk, OnOk, length, ◌++◌, ◌∷◌, [], slice_index, slice_index_or};
 ghost use Rattle.jd_logic.specs.Literals.{IsLiteral, AreLiterals, AreHints};
 ghost use Rattle.jd_propagate.specs.Quiet.{IsIn};

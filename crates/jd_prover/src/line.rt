@@ -1,4 +1,5 @@
-//! The line that a conflict gives.
+//! The line that a conflict gives, so that the decisions can't all be true again: the clause of
+//! their negations, with hints. With no decision it's the empty clause, with which a log ends.
 ghost use Rattle.std.specs.Prelude.{◌≡◌, ◌<◌, ◌^◌, IfOk, length};
 ghost use Rattle.jd_logic.specs.Literals.{AreLiterals};
 ghost use Rattle.jd_propagate.specs.Quiet.{IsWithin};

@@ -1,4 +1,5 @@
-//! The search over the inputs' values.
+//! The plain search, a walk over the tree of the inputs' values: each conflict adds a line and
+//! turns the last decision round. It also answers where the learning search finds that it can't.
 ghost use Rattle.std.specs.Prelude.{◌≡◌, ℕ, ◌-◌, ◌<◌, ◌≤◌, ◌^◌, false, IfOk, Some, None, length, slice_index};
 ghost use Rattle.std.specs.List.{list_any};
 ghost use Rattle.jd_logic.specs.Checking.{is_empty};

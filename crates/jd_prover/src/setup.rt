@@ -1,4 +1,6 @@
-//! The clauses given, taken one by one.
+//! What both searches do before any decision: they watch each clause given, or make its only
+//! literal true. A clause that is empty, or whose only literal is false by then, ends the search at
+//! once.
 ghost use Rattle.std.specs.Prelude.{◌≡◌, ℕ, ◌+◌, ◌<◌, ◌^◌, ℤ, false, IfOk, length, List};
 ghost use Rattle.std.specs.List.{list_any};
 ghost use Rattle.jd_logic.specs.Literals.{IsLiteral};

@@ -1,4 +1,6 @@
-//! What a search knows.
+//! All that a search knows, in one record that both searches share and propagation changes: the
+//! watched clauses, the trail with its reasons, where each decision stands in it, and the lines so
+//! far.
 
 ghost use Rattle.std.specs.Prelude.{◌≡◌, ◌++◌, ◌∷◌, [], false, OnOk};
 ghost use Rattle.jd_logic.specs.Literals.{IsLiteral};

@@ -1,4 +1,6 @@
-//! What an operation asks next.
+//! A symbolic machine asks here what an operation wants to know next. The question follows from the
+//! operation, the size of memory and the answers so far; the literal that answers it is made over
+//! the content.
 ghost use Rattle.std.specs.Prelude.{◌+◌, ◌-◌, ◌^◌, ◌<◌, ◌≤◌, IfOk, length};
 ghost use Rattle.hp_model.specs.Questions.{asks as asked_next};
 ghost use Rattle.hp_ops.specs.Meaning.{operation};

@@ -1,4 +1,6 @@
-//! The eight conditions that a program tests of X alone or of X and Y, as literals.
+//! The eight tests of X, or of X and Y, as literals over `jd_comparisons` and `jd_rows`; three are
+//! just the opposites of others. The question of a square root, whether X is negative, is answered
+//! here too.
 ghost use Rattle.std.specs.Prelude.{◌≡◌, ℕ, ◌+◌, ◌^◌, ◌<◌, ◌≤◌, Bool, IfOk, int_lt, length, pos};
 ghost use Rattle.hp_model.specs.Words.{value};
 ghost use Rattle.hp_model.specs.Questions.{holds_of_test};

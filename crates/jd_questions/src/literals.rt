@@ -1,4 +1,5 @@
-//! The literal that is the answer to each question.
+//! Gives each question the literal that is its answer on all data of which it's asked, so that a
+//! path can have it as a guard. Flags and bits of the index are at hand; the rest take circuits.
 ghost use Rattle.std.specs.Prelude.{◌≡◌, ℕ, ◌+◌, ◌-◌, ◌^◌, ◌<◌, ◌≤◌, Bool, IfOk, length, nat_lt};
 ghost use Rattle.hp_model.specs.State.{registers as registers_of};
 ghost use Rattle.hp_model.specs.Words.{bit, magnitude};

@@ -1,4 +1,5 @@
-//! Which question of an operation is next.
+//! The order in which an operation asks, and where it asks no more, as after a yes that means an
+//! error. The operation, the size of memory and the answers so far decide this, without the data.
 ghost use Rattle.std.specs.Prelude.{◌≡◌, ◌∷◌, [], true};
 ghost use Rattle.hp_model.specs.State.{Control as ControlState, index_bits as index_bits_of};
 ghost use Rattle.hp_model.specs.Questions.{asks, index_questions, label_questions, means_error, next_question, place_questions};

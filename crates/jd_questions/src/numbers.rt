@@ -1,4 +1,6 @@
-//! Questions that spell a number: first whether it is too great, and then its bits.
+//! Questions spell a number that control needs: first whether it's too great, where a yes ends it,
+//! and then its bits from the lowest. Word sizes, labels and registers that the data name are asked
+//! so.
 ghost use Rattle.std.specs.Prelude.{◌≡◌, ℕ, ◌∷◌, false, map, true};
 ghost use Rattle.hp_model.specs.Questions.{Question, means_error, next_question, numbers_below};
 ghost use Rattle.jd_questions.specs.Questions.{of_number};

@@ -1,4 +1,6 @@
-//! The questions on the data by whose answers control is decided.
+//! What control needs to know of the data, as yes or no. Each value stands for a question of
+//! `hp_model`; `next` chooses it without the data, and `literals` makes its literal over the
+//! content.
 use hp_ops::{Flag, Loop, Test};
 
 /// A question whose answer decides control. The places of bits are counted from the lowest.

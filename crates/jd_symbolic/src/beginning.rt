@@ -1,4 +1,5 @@
-//! Where a run of a problem's routine begins, and what the problem assumes of its starts.
+//! Puts a machine where a run of a problem begins: at line 1 of one of its routines, over data that
+//! `jd_inputs` makes, without a gate. There a walk also gets the literals of what is assumed.
 ghost use Rattle.std.specs.Prelude.{◌≡◌, ℕ, ◌+◌, ◌^◌, ◌<◌, ◌≤◌, Bool, IfOk, List, None, [], length, map, true};
 ghost use Rattle.jd_model.specs.Assumptions.{holds};
 ghost use Rattle.jd_model.specs.Problems.{free_bits, start_of};

@@ -1,4 +1,5 @@
-//! What is proved of an operation's questions and its step together.
+//! Contracts bound the gates of each question and of a step one by one. Here they are bounded
+//! together: no operation takes more than 2^18 in all, whatever its control. No code runs.
 ghost use Rattle.jd_symbolic.specs.Laws.{OperationGates};
 
 /// All that an operation asks and its step take at most 2^18 gates.

@@ -1,4 +1,6 @@
-//! The program of a symbolic machine, as control sees it.
+//! Control is told of a program and not of a machine, so it's handed a routine's codes with the
+//! blocks and the size of memory beside them. Each question and each step makes one anew from its
+//! machine.
 ghost use Rattle.std.specs.Prelude.{◌≡◌, ◌*◌, ◌≤◌, length};
 ghost use Rattle.hp_model.specs.State.{memory_bytes};
 

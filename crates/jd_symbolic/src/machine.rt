@@ -1,4 +1,5 @@
-//! The symbolic machine.
+//! Control of numbers beside data of literals, so that one machine does a routine for many starts
+//! at once. A walk keeps a copy at each question answered with no, to return there and take yes.
 ghost use Rattle.std.specs.Prelude.{◌≡◌, ◌*◌, ◌≤◌, IfOk, length};
 ghost use Rattle.hp_model.specs.State.{memory_bytes};
 

@@ -1,4 +1,6 @@
-//! One operation of a symbolic machine: what it asks, and what it does.
+//! One operation for all starts that give the same answers: an error changes control alone, else
+//! `jd_operations` changes the data and `hp_control` the rest. A walk asks first, through
+//! `jd_questions`, and hands in the answers.
 ghost use Rattle.std.specs.Prelude.{◌+◌, ◌^◌, ◌<◌, ◌≤◌, IfOk, length};
 ghost use Rattle.hp_model.specs.Questions.{IsComplete, asks as asked_next};
 ghost use Rattle.hp_ops.specs.Meaning.{operation};

@@ -1,4 +1,5 @@
-//! Questions of a walk: the next one, its answer, and the way back to an answer of no.
+//! The calls by which the judge and the check drive a walk. A question answered with no is kept
+//! with its machine and a mark of the circuit, so that going back takes no memory and adds no gate.
 ghost use Rattle.std.specs.Prelude.{◌≡◌, ◌<◌, ◌∷◌, ◌++◌, [], false, true, Some, Ok, OnOk, OnErr, IfOk, length, take, is_some};
 ghost use Rattle.jd_circuit.specs.Net.{Grows};
 ghost use Rattle.jd_books.specs.Paths.{next_path};

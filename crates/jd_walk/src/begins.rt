@@ -1,4 +1,5 @@
-//! Where the runs begin.
+//! Both runs begin at the same inputs of one circuit, without a gate, so their ends can be compared
+//! there. Of the first run's machine only the content is kept once the second begins.
 ghost use Rattle.std.specs.Prelude.{◌≡◌, true, IfOk, OnOk};
 ghost use Rattle.jd_problem.specs.Problems.{problem_of};
 ghost use Rattle.jd_walk.specs.Spots.{IsFor, IsBegun};

@@ -1,4 +1,5 @@
-//! The leaf of a walk's path.
+//! The judge and the check refute leaves, not walks, so here a path becomes one: guards of the
+//! assumptions before those of the answers, and the cone alone of the circuit.
 ghost use Rattle.std.specs.Prelude.{◌≡◌, ◌<◌, ◌^◌, ◌++◌, false, true, length, IfOk};
 ghost use Rattle.jd_trees.specs.declared.Kind.TheVariants.{Whole};
 ghost use Rattle.jd_leaves.specs.Views.{leaf_of};

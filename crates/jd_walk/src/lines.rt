@@ -1,4 +1,6 @@
-//! The next line of a symbolic machine: what it asks, and what it does.
+//! A symbolic machine is told which operation to do. Here it finds that of its line as the
+//! calculator does: past the last stands an RTN, and an error leaves its line's number. `runs` goes
+//! on by this.
 ghost use Rattle.std.specs.Prelude.{◌≡◌, ◌+◌, ◌^◌, ◌<◌, ◌≤◌, length, min, IfOk, OnOk, true};
 ghost use Rattle.hp_model.specs.Questions.{are_complete};
 ghost use Rattle.hp_model.specs.Run.{next_operation};

@@ -1,4 +1,5 @@
-//! Where a walk stood, and what comes next.
+//! What a walk tells and what it keeps for later: the end of the first run, which the difference
+//! needs, and each question answered with no, to which `answers` goes back.
 use crate::runs::Position;
 use hp_model::End;
 use jd_circuit::{Lit, Mark};

@@ -1,4 +1,6 @@
-//! A run along a path, to the next question or to its end, and what comes next in both runs.
+//! How far a path's answers lead: through the first run and then the second, line by line, to a
+//! question without an answer or to the difference of both ends. Each line needs room in the
+//! circuit.
 ghost use Rattle.std.specs.Prelude.{◌≡◌, ◌^◌, ◌<◌, Bool, false, length, IfOk, OnOk, IsTrue, ◌↔◌, None, Some};
 ghost use Rattle.jd_model.specs.Problems.{Problem as ProblemOf};
 ghost use Rattle.jd_circuit.specs.Net.{Grows};

@@ -1,4 +1,5 @@
-//! What the calls on numbers answer on constants.
+//! The calls on numbers of literals, asked on constants of 1 to 128 bits, so that their answers are
+//! numbers too. `told.py` works out the same rows, and its lines are to be the ones printed here.
 ghost use Rattle.std.specs.Prelude.{◌≡◌, ◌<◌, ◌≤◌, ◌^◌, length};
 ghost use Rattle.jd_vectors.specs.Number.{AreOf};
 

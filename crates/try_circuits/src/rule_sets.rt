@@ -1,5 +1,6 @@
-//! Gates over two inputs under four sets of rules: whichever the circuit asks, their literals mean
-//! the same.
+//! A rule may change which gates a circuit adds, but not what a literal means. Each gate over two
+//! inputs is asked under four sets, one with a rule that never answers, and its values compared
+//! with those of none.
 ghost use Rattle.std.specs.Prelude.{◌≡◌};
 ghost use Rattle.jd_circuit.specs.Net.{IsLit, IsOf};
 

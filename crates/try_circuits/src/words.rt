@@ -1,4 +1,5 @@
-//! Numbers as lists of constants, and lists of inputs.
+//! The way from numbers to literals and back: `numbers` makes its words of constants and reads the
+//! answers back, and `free` takes a word of inputs, whose bits aren't known.
 ghost use Rattle.std.specs.Prelude.{◌≡◌, ℕ, ◌+◌, ◌≤◌, length};
 ghost use Rattle.jd_vectors.specs.Number.{Inside};
 

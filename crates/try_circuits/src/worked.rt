@@ -1,4 +1,5 @@
-//! A worked circuit of two inputs.
+//! Whether a circuit keeps each pair of arguments once: a conjunction asked again or turned round
+//! is the same literal, and back at the mark no gate is left. `main` prints all of it as one line.
 use jd_circuit::{Bits, Circuit, Gate, Lit, NoMemory, NoRules};
 use std::alloc::Global;
 

@@ -1,4 +1,5 @@
-//! Each read and each write of a run failing in turn.
+//! Whichever call of a run fails, the command is to end with that fault's status, keep nothing and
+//! have written no more than is due. Each call fails in turn, until a run is over before it comes.
 use crate::rows::Row;
 use crate::runs::{Ended, Failing, Pace, run};
 use std::alloc::{AllocError, Global};

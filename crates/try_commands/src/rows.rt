@@ -1,4 +1,6 @@
-//! Rows of a file of data: commands, and what is to come of them.
+//! How a data file tells a run: the command's words and input, the calls that are to fail, and the
+//! status and output that are due. `runs` does what a row says; lines with other names are passed
+//! over.
 use std::alloc::{AllocError, Global};
 
 /// A command, and what is to come of it. No call has the number 0.

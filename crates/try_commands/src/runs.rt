@@ -1,4 +1,5 @@
-//! Runs of the commands of rows.
+//! A row's command done by the top call, with no rules, over streams of either pace or without an
+//! end. What comes of it is compared with the row, here and in `faults` and `main`.
 use crate::rows::Row;
 use crate::streams::{EndlessSource, SlowSink, SlowSource};
 use hp_io::{MemSink, MemSource, Sink, Source, next_byte};

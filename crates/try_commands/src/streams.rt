@@ -1,4 +1,5 @@
-//! Streams of other habits than those in memory. They tell nothing of their bytes.
+//! Streams in memory move all that there is room for and have an end. These move one byte a call or
+//! never end, so that commands meet such habits too; contracts learn nothing of their bytes.
 ghost use Rattle.std.specs.Prelude.{◌≡◌, ◌<◌, length, None, IfOk};
 ghost use Rattle.std.specs.Io.{ReadsAtMost, WritesAtMost};
 ghost use Rattle.std.specs.Io.KnownBytes.{ReadConsumes, WriteAppends};

@@ -1,4 +1,6 @@
-//! What a search answers for an input, and whether that is right.
+//! A search isn't taken at its word here: the checker of `jd_lrat` judges its log as text behind
+//! the clauses, and a model is tried on each clause. `main` prints what came of it, or the log as
+//! it is.
 
 use crate::inputs::inputs_of;
 use crate::searches::Search;

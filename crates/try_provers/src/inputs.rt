@@ -1,4 +1,5 @@
-//! All variables of clauses as inputs.
+//! A search must be told how many inputs decide the clauses, which DIMACS text doesn't say. The
+//! greatest variable will do, since every variable is an input then.
 ghost use Rattle.std.specs.Prelude.{◌≡◌, ℕ, ℤ, ◌<◌, ◌≤◌, [], length, nat_abs, slice_index_or};
 ghost use Rattle.jd_logic.specs.Literals.{AreLiterals};
 ghost use Rattle.jd_proving.specs.Proving.{AreDecided};

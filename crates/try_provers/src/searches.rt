@@ -1,4 +1,5 @@
-//! The two searches by their names.
+//! The plain search and the learning one as one type, so that `main` can choose by a word and
+//! `answers` needn't know which it has. The budget is kept within the range that both take.
 ghost use Rattle.jd_proving.specs.Proving.{AreDecided};
 
 use anyhow::{Result, bail};

@@ -1,4 +1,5 @@
-//! Both searches on worked examples.
+//! Small clauses with known answers, for both searches alike: refuted, a model, or a spent budget.
+//! Beside them stand the texts of logs, the plain search's order and the words of the command line.
 use crate::answers::{Answer, answer_to, log_text};
 use crate::searches::Search;
 use anyhow::Result;

@@ -1,4 +1,5 @@
-//! The text of a log.
+//! A search hands out lines, but the checker of LRAT reads text. `answers` puts a log's text behind
+//! the clauses to have it judged, or gives it to `main` to be printed; a model becomes a comment.
 use anyhow::Result;
 use jd_propagate::Line;
 

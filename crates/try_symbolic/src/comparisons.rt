@@ -1,4 +1,6 @@
-//! Where a machine of literals and one of numbers first differ.
+//! What has to be the same on both machines: stop, control, words and flags after each line, and
+//! the registers' nibbles at the end. A literal that isn't constant has no number, so it counts as
+//! a difference.
 ghost use Rattle.std.specs.Prelude.{◌≡◌, ◌*◌, length};
 ghost use Rattle.hp_model.specs.State.{memory_bytes, register_nibbles};
 

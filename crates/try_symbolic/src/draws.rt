@@ -1,4 +1,5 @@
-//! Numbers drawn one after another, the same ones in each run of the program.
+//! The words and flags of starts, about half of the words at an edge. They follow from a number
+//! that `cases` makes of each case, so a case is the same in every run of the program.
 use hp_words::WordSize;
 
 /// A state that each draw changes.

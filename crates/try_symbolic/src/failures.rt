@@ -1,4 +1,5 @@
-//! Why a trial could not be made, which no trial here is to print.
+//! One type for all that stops a trial before its end, refused memory too, so that trials can hand
+//! it on with `?` and print it in place of a result. None here is to come to that.
 use jd_circuit::NoMemory;
 use std::alloc::AllocError;
 

@@ -1,4 +1,6 @@
-//! How many gates operations add to a circuit, where nothing of the start is fixed.
+//! What an operation costs where the whole start is free: the gates of its questions and, in
+//! another circuit, of the step after each was answered with no. Two ways to ten times X stand
+//! beside it.
 
 use crate::failures::Failure;
 use crate::literals::{answers, do_line, op_of_line};

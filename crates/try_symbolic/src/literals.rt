@@ -1,5 +1,5 @@
-//! Lines of a machine of literals, whose questions are answered as they are told, and beyond that by
-//! constants.
+//! A machine of literals wants the answers before it does a line, and no walk chooses them here.
+//! Those that are told come first, and then the constants that the questions' literals are.
 ghost use Rattle.std.specs.Prelude.{◌≡◌, ℕ, ◌+◌, ◌^◌, ◌<◌, ◌≤◌, IfOk, IsTrue, ◌↔◌, length};
 ghost use Rattle.hp_model.specs.Questions.{IsComplete};
 ghost use Rattle.hp_ops.specs.Meaning.{operation};

@@ -1,4 +1,6 @@
-//! Worked rows: runs whose ends are known, on literals as on numbers.
+//! Registers read at another word size, or reached by the index register, from starts that are
+//! worked. The stop and X are printed where both machines agree; two more runs answer a free
+//! start's questions as told.
 use crate::comparisons::number;
 use crate::failures::Failure;
 use crate::literals::do_line;

@@ -1,5 +1,6 @@
-//! One routine on two machines: each line is done on literals and on numbers, and then they are
-//! compared.
+//! A problem without free parts runs on literals and on numbers at once, each line on both, up to
+//! the first difference. `rows` and `operations` make the problems; where no line differs, memory
+//! is compared last.
 ghost use Rattle.std.specs.Prelude.{◌≡◌, ◌-◌, ◌*◌, ◌≤◌, ◌^◌, ◌<◌, IfOk, length};
 ghost use Rattle.jd_model.specs.Problems.{free_bits};
 ghost use Rattle.jd_problem.specs.Problems.{problem_of};

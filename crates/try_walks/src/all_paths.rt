@@ -1,4 +1,6 @@
-//! A walk through every path of answers, whether a start takes it or not.
+//! How many paths a problem has where every question is answered both ways, whether a start goes
+//! there or not. Each place is asked twice, to see that it says the same, and a long walk is given
+//! up.
 use anyhow::{Result, ensure};
 use jd_circuit::{NoMemory, NoRules};
 use jd_problem::Problem;

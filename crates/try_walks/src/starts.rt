@@ -1,4 +1,6 @@
-//! Walks along the paths that starts take.
+//! The same walks led by starts: each question is answered as a start's bits make the guards, so
+//! that the paths that are taken, and the starts from which routines differ, are counted where free
+//! bits are few.
 ghost use Rattle.std.specs.Prelude.{◌≡◌, false};
 
 use crate::values::{value, values};

@@ -1,4 +1,6 @@
-//! Values of literals, worked out gate by gate.
+//! What a start makes of a leaf's guards and difference, which `starts` needs for its answers.
+//! Gates are worked out in their order, from input bits; one that names a later variable is an
+//! error.
 use anyhow::{Result, bail};
 use jd_circuit::{Gate, Lit};
 use std::alloc::Global;
