@@ -1,5 +1,5 @@
 // The number part of the display.
-ghost use Rattle.std.specs.Prelude.{◌≡◌, ℕ, ◌+◌, ◌-◌, ◌*◌, ◌/◌, ◌%◌, ◌^◌, ◌<◌, ◌≤◌, ◌++◌, length, true, codes, [], ◌∷◌};
+ghost use Rattle.std.specs.Prelude.{◌≡◌, nat_lt, ℕ, ◌+◌, ◌-◌, ◌*◌, ◌/◌, ◌%◌, ◌^◌, ◌<◌, ◌≤◌, ◌++◌, length, true, codes, [], ◌∷◌};
 ghost use Rattle.hp_model.specs.Display.{number_text, has_minus as has_minus_of, base_letter as letter_of, text_if, filled_to as filled_to_of, digits_for as digits_for_of};
 ghost use Rattle.hp_display.specs.Windows.{window_text, has_place};
 ghost use Rattle.hp_core.specs.Machines.{control_of, data_of};
@@ -98,6 +98,20 @@ fn is_negative(machine: &Machine, base: Base) -> bool
     }
 }
 
+/// What stands behind the number's eight places: whether more digits stand before them, the base and
+/// whether the window is another than the first.
+fn push_marks(text: &mut ArrayString<32>, more: bool, base: Base, window: u8)
+    requires room { array_string_len text.old ≤ 17 }
+    ensures text { text.new.bytes ≡ text.old.bytes
+        ++ codes " " ++ text_if more (codes ".") ++ letter_of base ++ text_if (nat_lt 0 window) (codes ".") }
+    ensures len { array_string_len text.new ≤ array_string_len text.old + 4 }
+{
+    text.push(' ');
+    push_if(text, more, ".");
+    text.push(base_letter(base));
+    push_if(text, window > 0, ".");
+}
+
 /// The number part is added to a text.
 pub fn push_number(text: &mut ArrayString<32>, machine: &Machine, base: Base, window: u8)
     requires window { window ≤ 7 }
@@ -108,8 +122,5 @@ pub fn push_number(text: &mut ArrayString<32>, machine: &Machine, base: Base, wi
 {
     push_if(text, is_negative(machine, base), "-");
     let more = push_window(text, machine, base, 8 * window);
-    text.push(' ');
-    push_if(text, more, ".");
-    text.push(base_letter(base));
-    push_if(text, window > 0, ".");
+    push_marks(text, more, base, window);
 }
