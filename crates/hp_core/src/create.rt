@@ -34,6 +34,19 @@ impl Machine {
         machine
     }
 
+    /// The same machine.
+    pub fn copy(&self) -> Machine
+        ensures control { result.control ≡ self.now.control }
+        ensures content { result.content ≡ self.now.content }
+        ensures memory { result.memory ≡ self.now.memory }
+    {
+        Machine {
+            control: self.control.copy(),
+            content: self.content,
+            memory: self.memory.copy(),
+        }
+    }
+
     /// A machine at line 1, with nothing pending, lift enabled and no entry.
     pub fn begin(
         size: WordSize,

@@ -24,7 +24,7 @@ mod step_all;
 mod tests_of_x;
 mod words;
 
-// The machine: `new`, `begin`; `step`, `step_all`; `op_at`; `x_word`.
+// The machine: `new`, `begin`, `copy`; `step`, `step_all`; `op_at`; `x_word`.
 pub use machine::Machine;
 
 // What decides which operation comes next.

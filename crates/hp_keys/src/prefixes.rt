@@ -80,6 +80,15 @@ impl Prefix {
         }
     }
 
+    /// The same prefix.
+    pub fn copy(&self) -> Prefix
+        ensures { result ≡ self.now }
+    {
+        Prefix {
+            pending: self.pending,
+        }
+    }
+
     /// The shift that the display shows.
     pub fn shift(&self) -> Shift
         ensures { result ≡ shift_of self.now }

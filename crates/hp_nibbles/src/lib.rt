@@ -9,7 +9,7 @@ mod memory;
 // The sizes of memory.
 pub use hp_model::Extent;
 
-// `new`, `with`; `count`, `read`, `write`, `nibble`, `clear_registers`; `lines`, `blocks`, `line`,
+// `new`, `with`, `copy`; `count`, `read`, `write`, `nibble`, `clear_registers`; `lines`, `blocks`, `line`,
 // `insert_line`, `delete_line`, `clear_program`.
 pub use memory::Memory;
 

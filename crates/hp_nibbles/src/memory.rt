@@ -76,6 +76,18 @@ impl Memory {
         }
     }
 
+    /// The same memory.
+    pub fn copy(&self) -> Memory
+        ensures { result ≡ self.now }
+    {
+        Memory {
+            bytes: self.bytes,
+            extent: self.extent,
+            lines: self.lines,
+            blocks: self.blocks,
+        }
+    }
+
     /// The size of memory.
     pub fn extent(&self) -> Extent
         ensures value { memory_bytes result ≡ self.now.bytes }

@@ -3,3 +3,4 @@ pub mod Calculators
 pub mod Seen
 pub mod Jumped
 pub mod Places
+pub mod Stepping

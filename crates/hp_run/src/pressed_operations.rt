@@ -8,6 +8,7 @@ ghost use Rattle.hp_core.specs.Machines.{machine_of, KeepsLines};
 ghost use Rattle.hp_core.specs.FromLines.{IsFromALine};
 ghost use Rattle.hp_run.specs.Calculators.{shown_of};
 ghost use Rattle.hp_run.specs.Jumped.{jumped};
+ghost use Rattle.hp_run.specs.Stepping.{at_run_start};
 
 use crate::lines::do_line;
 use crate::runs::run_on;
@@ -16,7 +17,7 @@ use hp_keys::View;
 use hp_ops::{Jump, Op, Target};
 
 /// What the display shows after an operation.
-fn view_of_stop(stop: Stop) -> View
+pub fn view_of_stop(stop: Stop) -> View
     ensures { result ≡ view_of_stop_of stop }
 {
     match stop {
@@ -80,14 +81,23 @@ fn press_return(machine: &mut Machine) -> View
     View::Normal
 }
 
-/// A pressed R/S runs from the shown line, with the pending returns.
+/// A pressed R/S goes to the shown line, or to the first, with the pending returns.
+pub fn begin_run(machine: &mut Machine)
+    ensures begun { machine_of machine.new ≡ at_run_start (machine_of machine.old) }
+    ensures lines { KeepsLines machine.old machine.new }
+    ensures line { 1 ≤ machine.new.control.line }
+{
+    let _ = machine.step(Op::Jump(Jump::RunStop));
+    machine.control.line = machine.control.line.max(1);
+}
+
+/// It runs from there.
 fn press_run_stop(machine: &mut Machine) -> View
     ensures shown { shown_of machine.new result
         ≡ pressed_operation ops.run_stop (machine_of machine.old) }
     ensures lines { KeepsLines machine.old machine.new }
 {
-    let _ = machine.step(Op::Jump(Jump::RunStop));
-    machine.control.line = machine.control.line.max(1);
+    begin_run(machine);
     run_on(machine)
 }
 

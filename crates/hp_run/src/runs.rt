@@ -18,8 +18,8 @@ pub enum RunEnd {
     Late,
 }
 
-/// The lines that one key may do.
-const LINES_PER_KEY: u32 = 100_000;
+/// The lines that one key may do. After as many without an end a run is late, and the display shows Error 8.
+pub const LINES_PER_KEY: u32 = 100_000;
 
 /// Does lines from the line number on, at most `bound` of them. Each RTN past the last line is one
 /// too.

@@ -1,0 +1,9 @@
+pub mod Debuggers
+pub mod Laws
+pub mod ScriptLines
+pub mod Scripts
+pub mod WorkedScripts
+pub mod Outcomes
+pub mod Fields
+pub mod History
+pub mod ParsedLines
