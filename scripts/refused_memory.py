@@ -1,9 +1,11 @@
 #!/usr/bin/env python3
 """Refuses memory to commands, one allocation at a time, and prints how they end.
 
-usage: scripts/refused_memory.py [COUNT]
+usage: scripts/refused_memory.py [COUNT [CERTIFIED]]
 
-COUNT allocations of each command are refused, 400 at first.
+COUNT allocations of each command are refused, 400 at first. CERTIFIED is a file that `judge` wrote: a
+problem and its certificate, which `check` then takes line by line, with many derivations where it is
+`./hp16c judge < examples/pairs/bit-count.problem`.
 
 Each run is one of `try_commands`, unproved, with the allocation with the number BEFORE refused. A row on
 its standard input has it make other allocations first, so that the refused one is any of the command's
@@ -26,17 +28,26 @@ REFUSED = "status 8, 0 bytes, not as due"
 BESIDE = "refused beside the command"
 
 
-def commands():
+def commands(certified):
+    """A name for each command, its word, its input, and the output that is due."""
     problem = (ROOT / "examples/doubling.problem").read_text()
     certificate = problem + "certificate 1\nleaf\nend\n"
     clauses = (ROOT / "examples/four-clauses.lrat").read_text()
-    yield "judge", problem, certificate
-    yield "check", certificate, "equal\n"
-    yield "lrat", clauses, "refuted\n"
+    yield "judge", "judge", problem, certificate
+    yield "check", "check", certificate, "equal\n"
+    yield "lrat", "lrat", clauses, "refuted\n"
+    script = "g R/S g GTO A 1 + GTO A g R/S\n:break 4\nGTO A\n:go\n:back\n"
+    yield "debug", "debug", script, "0 h\n0 h\n0 h\nbreak 004 1 h\n003 1 h\n"
+    head = "spec 1\nword 8\nmode 0\nbase 16\nmemory 203\nsteps 5\npaths 1\nbudget 65536\n"
+    yield "spec", "spec", f"{head}give X mod 8 + X X\nroutine\nSL\nend\n", "certificate 1\nleaf\nend\n"
+    source, shorter = problem.split("second\n")[0].replace("SL\n", "ENTER\n+\n"), "second\nSL\nend\n"
+    yield "short", "short", f"{source}second\nend\n", f"{source}{shorter}certificate 1\nleaf\nend\n"
+    if certified:
+        yield "derivations", "check", Path(certified).read_text(), "equal\n"
 
 
-def row(command, text, output, before):
-    lines = [f"row {command}", f"words {command}", f"input {text}", "status 0", f"output {output}"]
+def row(word, text, output, before):
+    lines = [f"row {word}", f"words {word}", f"input {text}", "status 0", f"output {output}"]
     return "".join(line.replace("\n", "\\n") + "\n" for line in [*lines, f"before {before}"])
 
 
@@ -58,15 +69,16 @@ def ends(text):
 
 def main():
     count = int(sys.argv[1]) if len(sys.argv) > 1 else 400
+    certified = sys.argv[2] if len(sys.argv) > 2 else None
     with tempfile.TemporaryDirectory() as name:
         folder = Path(name)
-        for command, text, output in commands():
+        for command, word, text, output in commands(certified):
             for own in range(count):
-                (folder / f"{command}-{own:06}").write_text(row(command, text, output, BEFORE - own))
+                (folder / f"{command}-{own:06}").write_text(row(word, text, output, BEFORE - own))
         printed = run_all(folder)
     found = ends(printed)
     wrong = False
-    for command, _, due in commands():
+    for command, _, _, due in commands(certified):
         tally = Counter(end for case, end in found.items() if case.startswith(command + "-"))
         for end, times in sorted(tally.items()):
             print(f"{command}: {end}: {times} runs")

@@ -5,7 +5,7 @@ use hp_io::{StdSink, StdSource};
 use hp16c_commands::Status;
 pub use hp16c_commands::hp16c;
 use jd_circuit::Gate;
-use jd_rules::{Rule, RuleSet, constant_and, constant_xor};
+use jd_rules::{Rule, RuleSet, alike, constant_and, constant_xor};
 use std::io::{BufReader, ErrorKind};
 use std::process::ExitCode;
 use std::{env, io};
@@ -28,13 +28,14 @@ fn number_without_words(error: &io::Error) -> u8 {
     }
 }
 
-// Does what the words say. The judge's circuits ask two rules, for conjunctions and for exclusive ors
-// with a constant argument.
+// Does what the words say. The judge's circuits ask three rules, for conjunctions and for exclusive ors
+// with a constant argument, and for gates whose arguments are equal or negations of each other.
 fn run(rt: &HostRuntime, words: &[String]) -> io::Result<Status> {
     let alloc = rt.alloc();
     let mut rules: Vec<Rule> = Vec::new(alloc);
     rules.push(Rule::new(Box::new(alloc, |gate: Gate| constant_and(gate))?))?;
     rules.push(Rule::new(Box::new(alloc, |gate: Gate| constant_xor(gate))?))?;
+    rules.push(Rule::new(Box::new(alloc, |gate: Gate| alike(gate))?))?;
     let rules = RuleSet::new(rules);
     let mut source = StdSource::new(BufReader::new(alloc, rt.reader())?);
     // A display is one write, so it goes out when its line has been read.

@@ -1,16 +1,18 @@
 -- What follows of an answer to what a source gave.
 use Rattle.std.proofs.Common.{◌≡◌, ◌≢◌, ℕ, ◌+◌, ◌<◌, ◌≤◌, true, false, Bool, ◌||◌, List, [], ◌++◌, length, Option, Some, None, IfSome, IfOk, refl, sym, ap, subst, ◌∙◌, arith, inl, inr, append-nil, length-append}
 use Rattle.std.specs.Prelude.{Result, Ok, Err}
+use Rattle.std.specs.Io.KnownBytes.{Appends}
 use Rattle.hp_io.specs.declared.limited.ReadStop.{ReadStop}
 use Rattle.std.proofs.lemmas.Bool.{false≢true}
 use Rattle.hp16c_commands.specs.declared.outcomes.Status.{Status}
-use Rattle.hp16c_commands.specs.declared.outcomes.Status.TheVariants.{Usage}
+use Rattle.hp16c_commands.specs.declared.outcomes.Outcome.{Outcome}
+use Rattle.hp16c_commands.specs.declared.outcomes.Status.TheVariants.{Usage, ReadFault, WriteFault, NoMemory}
 use Rattle.hp16c_commands.specs.declared.whole_inputs.WholeInput.TheVariants as inputs
 use Rattle.hp16c_commands.specs.declared.told.Answer.{Answer as AnswerTold}
 use Rattle.hp16c_commands.specs.declared.whole_inputs.WholeInput.{WholeInput}
 use Rattle.hp16c_commands.specs.Answers.{Answer, too_long}
 use Rattle.hp16c_commands.specs.Answered.{answer_of}
-use Rattle.hp16c_commands.specs.WholeInputs.{Answers, IsAnswer, IsAnswerTo, within, past, can_end, is_answer_of, is_fault, limit_of}
+use Rattle.hp16c_commands.specs.WholeInputs.{Answers, IsAnswer, IsAnswerTo, WasTold, IfGiven, within, past, can_end, is_answer_of, is_fault, limit_of}
 use Rattle.hp16c_commands.proofs.AnswerEnds.{answer-ends}
 
 given-ends : (command : WholeInput) (left0 left : Option (List ℕ)) (answer : Answer) → IsAnswer command left0 left answer → is_answer_of command answer.outcome.status ≡ true
@@ -44,6 +46,9 @@ not-usage command status is same = false≢true (sym (never command) ∙ subst (
     never inputs.Replay = refl
     never inputs.Judge = refl
     never inputs.Check = refl
+    never inputs.Debug = refl
+    never inputs.Spec = refl
+    never inputs.Short = refl
 
 pub ok-no-usage : (command : WholeInput) (left0 left : Option (List ℕ)) (r : Result AnswerTold ReadStop) → IfOk r (λ a. IsAnswer command left0 left (answer_of a))
     → IfOk r (λ a. (answer_of a).outcome.status ≢ Usage)
@@ -72,3 +77,18 @@ may-end command status is = by (is_fault status) is
     by : (fault : Bool) → is_answer_of command status ≡ true → (fault || is_answer_of command status) ≡ true
     by true is = refl
     by false is = is
+
+if-given : (status : Status) (P : Type 0) → P → IfGiven status P
+if-given ReadFault P p = tt
+if-given WriteFault P p = tt
+if-given NoMemory P p = tt
+if-given _ P p = p
+
+-- an answer to bytes that the source told, with its text written
+pub told-given : (command : WholeInput) (left0 written0 written : Option (List ℕ)) (answer : Answer) (outcome : Outcome) → outcome ≡ answer.outcome
+    → IfSome left0 (λ bytes. IsAnswerTo command bytes answer) → Appends written0 written answer.text
+    → IfSome left0 (λ bytes. IfGiven outcome.status (WasTold command bytes outcome written0 written))
+told-given command None written0 written answer outcome same is put = tt
+told-given command (Some bytes) written0 written answer outcome same is put =
+    subst (λ (o : Outcome). IfGiven o.status (WasTold command bytes o written0 written)) (sym same)
+    (if-given answer.outcome.status _ (record { text = answer.text; answer = is; put = put }))

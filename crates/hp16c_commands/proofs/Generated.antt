@@ -8,6 +8,7 @@ use Rattle.jd_generated.proofs.Agreement.{generated-agree, generated-ask-once}
 use Rattle.jd_judge.specs.declared.outcomes.Judged.{Judged}
 use Rattle.jd_judge.specs.Judging.{IsJudged}
 use Rattle.jd_judge.specs.Laws.{IsEnough, is_equal}
+use Rattle.jd_model.specs.Seen.{agree}
 use Rattle.jd_judge.proofs.Pigeons.{complete}
 use Rattle.jd_model.specs.Seen.{machine_at}
 use Rattle.jd_books.specs.Paths.{answers_of_start}
@@ -57,4 +58,4 @@ enough : (n : ℕ) → IsEnough (generated n)
 enough n = rw (free-bits n) (omega arith)
 
 pub always-equal : (n : ℕ) (judged : Judged) → IsJudged (generated n) judged → is_equal judged ≡ true
-always-equal n judged is = (complete (generated n) judged is (enough n) (few-answers generated-ask-once n)).equal (generated-agree n)
+always-equal n judged is = (complete (generated n) (agree (generated n)) judged is (enough n) (few-answers generated-ask-once n)).equal (generated-agree n)

@@ -15,7 +15,10 @@ command_named word =
     if bytes_eq word (codes "list") then Some (Read inputs.List) else
     if bytes_eq word (codes "replay") then Some (Read inputs.Replay) else
     if bytes_eq word (codes "judge") then Some (Read inputs.Judge) else
-    if bytes_eq word (codes "check") then Some (Read inputs.Check) else None
+    if bytes_eq word (codes "check") then Some (Read inputs.Check) else
+    if bytes_eq word (codes "debug") then Some (Read inputs.Debug) else
+    if bytes_eq word (codes "spec") then Some (Read inputs.Spec) else
+    if bytes_eq word (codes "short") then Some (Read inputs.Short) else None
 
 -- the number of a word of 1 to 10 decimal digits, where it is below 2^32
 abbrev pub below_limit : ℕ → Option ℕ

@@ -1,6 +1,7 @@
 -- What `gen` does with a number: it judges the problem of that number, whose routines agree.
 use Rattle.std.specs.Prelude.{◌≡◌, ℕ, List, take, Option}
 use Rattle.std.specs.Io.KnownBytes.{Appends}
+use Rattle.jd_model.specs.Seen.{agree}
 use Rattle.jd_generated.specs.Generated.{generated, summary}
 use Rattle.jd_judge.specs.Judging.{IsEqual}
 use Rattle.hp16c_commands.specs.declared.outcomes.Kept.{Kept}
@@ -11,7 +12,7 @@ use Rattle.hp16c_commands.specs.declared.outcomes.Status.TheVariants.{Done, Writ
 
 -- the kept certificate shows that the routines of the number's problem agree
 abbrev pub ShowsEqual : ℕ → Kept → Type 0
-ShowsEqual n (kept.Judged book cert) = IsEqual (generated n) book cert
+ShowsEqual n (kept.Judged book cert) = IsEqual (generated n) (agree (generated n)) book cert
 ShowsEqual n _ = ⊥
 
 -- what was written and kept, status by status. `gen` ends with no other

@@ -1,22 +1,21 @@
--- What `judge` answers for the bytes of a problem: a certificate, a start, or the limit that it met.
-use Rattle.std.specs.Prelude.{◌≡◌, ℕ, Bool, List, [], ◌∷◌, ◌++◌, length, codes, decimal, Result, Ok, Err, ⊤}
+-- What `judge` answers for the bytes of a problem: a certificate, a start, or the limit that it met. Commands that ask the judge
+-- something else answer with what is told here too.
+use Rattle.std.specs.Prelude.{◌≡◌, ℕ, Bool, true, List, [], ◌∷◌, ◌++◌, length, codes, decimal, Result, Ok, Err, ⊤}
 use Rattle.jd_text.specs.Words.{word_lines}
 use Rattle.jd_text.specs.Readings.{read_lines}
-use Rattle.jd_logic.specs.declared.Line.{Line}
-use Rattle.jd_model.specs.Problems.{Problem, free_bits}
+use Rattle.jd_model.specs.Problems.{Problem, allows}
 use Rattle.jd_model.specs.ProblemWriter.{problem_text}
+use Rattle.jd_model.specs.Seen.{agree}
 use Rattle.jd_model.specs.StartTexts.{start_text}
 use Rattle.jd_model.specs.Replays.{problem_and}
 use Rattle.jd_start.specs.Starts.{start_data}
 use Rattle.jd_trees.specs.CertWriter.{certificate_text}
-use Rattle.jd_books.specs.Leaves.{clauses_of}
-use Rattle.jd_books.specs.Outcomes.{AreTooMany, IsDifference}
+use Rattle.jd_books.specs.Leaves.{Claim}
 use Rattle.jd_leaves.specs.Views.{leaf_of}
-use Rattle.jd_proving.specs.Proving.{IsUnknown}
-use Rattle.jd_judge.specs.Judging.{IsEqual, IsUnknownAt}
-use Rattle.hp16c_commands.specs.declared.outcomes.Kept.{Kept}
+use Rattle.jd_judge.specs.declared.outcomes.Judged.{Judged}
+use Rattle.jd_judge.specs.declared.outcomes.Judged.TheVariants as judges
+use Rattle.jd_judge.specs.Judging.{IsJudgedTo}
 use Rattle.hp16c_commands.specs.declared.outcomes.Kept.TheVariants as kept
-use Rattle.hp16c_commands.specs.declared.outcomes.Status.{Status}
 use Rattle.hp16c_commands.specs.declared.outcomes.Status.TheVariants as status
 use Rattle.hp16c_commands.specs.Answers.{Answer, bad_line}
 use Rattle.hp16c_commands.specs.PathTexts.{path_text}
@@ -39,20 +38,42 @@ unknown_text path lines = codes "unknown " ++ path_text path ++ codes " " ++ dec
 abbrev pub paths_text : ℕ → List ℕ
 paths_text count = codes "paths " ++ decimal count ++ codes "\n"
 
--- what is kept shows why the status comes, and is what is written
-abbrev pub IsJudgement : Problem → Status → Kept → List ℕ → Type 0
-IsJudgement p status.Done (kept.Judged book cert) text = IsEqual p book cert × (text ≡ problem_text p ++ certificate_text cert)
-IsJudgement p status.Different (kept.Start start) text = IsDifference p (start_data start) × (text ≡ problem_text p ++ start_text (start_data start))
-IsJudgement p status.Unknown (kept.Log leaf log) text =
-    IsUnknownAt p (leaf_of leaf) × IsUnknown (clauses_of (leaf_of leaf)) (free_bits p) p.budget log × (text ≡ unknown_text (leaf_of leaf).path (length log))
-IsJudgement p status.TooManyPaths (kept.Starts starts) text = AreTooMany p starts × (text ≡ paths_text (length starts))
-IsJudgement p _ _ text = ⊥
+-- what is told of the judge's answer. A certificate and a start are written after a heading
+abbrev pub judgement : List ℕ → Judged → Answer
+judgement heading (judges.Equal book cert) = record {
+  outcome = record { status = status.Done; kept = kept.Judged book cert };
+  text = heading ++ certificate_text cert;
+}
+judgement heading (judges.Different start) = record {
+  outcome = record { status = status.Different; kept = kept.Start start };
+  text = heading ++ start_text (start_data start);
+}
+judgement heading (judges.Unknown leaf log) = record {
+  outcome = record { status = status.Unknown; kept = kept.Log leaf log };
+  text = unknown_text (leaf_of leaf).path (length log);
+}
+judgement heading (judges.TooManyPaths starts) = record {
+  outcome = record { status = status.TooManyPaths; kept = kept.Starts starts };
+  text = paths_text (length starts);
+}
 
-abbrev pub IsJudgementOf : Problem → Answer → Type 0
-IsJudgementOf p answer = IsJudgement p answer.outcome.status answer.outcome.kept answer.text
+-- a start is told only where the problem allows it
+abbrev pub IsTellable : Problem → Judged → Type 0
+IsTellable p (judges.Different start) = allows p (start_data start) ≡ true
+IsTellable p _ = ⊤
+
+-- what is told is an answer of the judge that shows what it says of the claim
+pub record IsJudgementTo (p : Problem) (claim : Claim) (heading : List ℕ) (answer : Answer) : Type 0 where
+  pub judged : Judged
+  pub shown : IsJudgedTo p claim judged
+  pub told : answer ≡ judgement heading judged
+
+-- whether both routines agree
+abbrev pub IsJudgement : Problem → Answer → Type 0
+IsJudgement p answer = IsJudgementTo p (agree p) (problem_text p) answer
 
 abbrev pub IsJudged : Result (Problem × ⊤) ℕ → Answer → Type 0
-IsJudged (Ok input) answer = IsJudgementOf input.0 answer
+IsJudged (Ok input) answer = IsJudgement input.0 answer
 IsJudged (Err line) answer = answer ≡ bad_line line
 
 abbrev pub JudgeAnswers : List ℕ → Answer → Type 0

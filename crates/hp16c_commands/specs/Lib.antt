@@ -11,5 +11,8 @@ pub mod Checking
 pub mod Generating
 pub mod Lrat
 pub mod Routines
+pub mod Specifying
+pub mod Shortening
 pub mod Replays
+pub mod Debugging
 pub mod WholeInputs

@@ -14,6 +14,9 @@ use Rattle.hp16c_commands.specs.Routines.{asm_answer, list_answer}
 use Rattle.hp16c_commands.specs.Replays.{replay_answer}
 use Rattle.hp16c_commands.specs.Judging.{JudgeAnswers}
 use Rattle.hp16c_commands.specs.Checking.{CheckAnswers}
+use Rattle.hp16c_commands.specs.Debugging.{debug_answer}
+use Rattle.hp16c_commands.specs.Specifying.{SpecAnswers}
+use Rattle.hp16c_commands.specs.Shortening.{ShortAnswers}
 
 -- the greatest input, in bytes
 abbrev pub limit_of : WholeInput → ℕ
@@ -23,8 +26,11 @@ limit_of inputs.List = 65_536
 limit_of inputs.Replay = 131_072
 limit_of inputs.Judge = 65_536
 limit_of inputs.Check = 268_500_992
+limit_of inputs.Debug = 1_000_000
+limit_of inputs.Spec = 65_536
+limit_of inputs.Short = 65_536
 
--- an answer to bytes within the limit. That of `judge` and of `check` keeps more than the bytes decide
+-- an answer to bytes within the limit. That of `judge`, `check`, `spec` and `short` keeps more than the bytes decide
 abbrev pub Answers : WholeInput → List ℕ → Answer → Type 0
 Answers inputs.Lrat bytes answer = answer ≡ lrat_answer bytes
 Answers inputs.Assemble bytes answer = answer ≡ asm_answer bytes
@@ -32,6 +38,9 @@ Answers inputs.List bytes answer = answer ≡ list_answer bytes
 Answers inputs.Replay bytes answer = answer ≡ replay_answer bytes
 Answers inputs.Judge bytes answer = JudgeAnswers bytes answer
 Answers inputs.Check bytes answer = CheckAnswers bytes answer
+Answers inputs.Debug bytes answer = answer ≡ debug_answer bytes
+Answers inputs.Spec bytes answer = SpecAnswers bytes answer
+Answers inputs.Short bytes answer = ShortAnswers bytes answer
 
 -- an answer to any bytes: the limit is looked at first
 pub data IsAnswerTo (command : WholeInput) (bytes : List ℕ) (answer : Answer) : Type 0 where
@@ -92,17 +101,24 @@ IfGiven WriteFault P = ⊤
 IfGiven NoMemory P = ⊤
 IfGiven _ P = P
 
+-- which statuses the judge's answers have that aren't its good one
+abbrev pub is_judged : Status → Bool
+is_judged Different = true
+is_judged Unknown = true
+is_judged TooManyPaths = true
+is_judged _ = false
+
 -- which statuses an answer to a command may have
 abbrev pub is_answer_of : WholeInput → Status → Bool
 is_answer_of _ Done = true
 is_answer_of _ BadInput = true
 is_answer_of _ Limit = true
 is_answer_of inputs.Replay Different = true
-is_answer_of inputs.Judge Different = true
-is_answer_of inputs.Judge Unknown = true
-is_answer_of inputs.Judge TooManyPaths = true
 is_answer_of inputs.Lrat CertRefused = true
 is_answer_of inputs.Check CertRefused = true
+is_answer_of inputs.Judge status = is_judged status
+is_answer_of inputs.Spec status = is_judged status
+is_answer_of inputs.Short status = is_judged status
 is_answer_of _ _ = false
 
 -- statuses with which nothing is answered, so that nothing is kept

@@ -39,6 +39,9 @@ impl Command {
             [word] if word.as_str() == "replay" => Some(Command::Read(WholeInput::Replay)),
             [word] if word.as_str() == "judge" => Some(Command::Read(WholeInput::Judge)),
             [word] if word.as_str() == "check" => Some(Command::Read(WholeInput::Check)),
+            [word] if word.as_str() == "debug" => Some(Command::Read(WholeInput::Debug)),
+            [word] if word.as_str() == "spec" => Some(Command::Read(WholeInput::Spec)),
+            [word] if word.as_str() == "short" => Some(Command::Read(WholeInput::Short)),
             [word, number] if word.as_str() == "gen" => {
                 let n = number_of(number.as_bytes())?;
                 Some(Command::Generate(n))

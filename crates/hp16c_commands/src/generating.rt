@@ -4,6 +4,7 @@ ghost use Rattle.std.specs.Prelude.{◌≡◌, ◌≢◌, ◌≤◌, true};
 ghost use Rattle.hp_io.specs.Causes.{Rose};
 ghost use Rattle.jd_generated.specs.Generated.{generated, summary};
 ghost use Rattle.jd_problem.specs.Problems.{problem_of};
+ghost use Rattle.jd_model.specs.Seen.{agree};
 ghost use Rattle.jd_judge.specs.Judging.{IsEqual, IsJudged};
 ghost use Rattle.hp16c_commands.specs.Generating.{GenerateDid};
 ghost use Rattle.hp16c_commands.specs.WholeInputs.{is_fault};
@@ -39,7 +40,7 @@ fn summary(n: u32, problem: &Problem) -> ArrayString<64>
 /// agree from every allowed start, they take two paths, and the budget suffices.
 fn certificate(n: u32, judged: Judged) -> (Book, Cert)
     requires { IsJudged (generated n) judged }
-    ensures { IsEqual (generated n) result.0 result.1 }
+    ensures { IsEqual (generated n) (agree (generated n)) result.0 result.1 }
 {
     match judged {
         Judged::Equal(book, cert) => (book, cert),

@@ -1,18 +1,19 @@
 //! The command `judge`: reads a problem, after which only empty lines may stand, and gives the
-//! judge's answer as a text and what is kept.
+//! judge's answer as a text and what is kept. Commands that ask the judge something else tell its
+//! answer by `answer_to` too.
 ghost use Rattle.std.specs.Prelude.{◌≡◌, ◌+◌, ◌<◌, ◌≤◌, ◌^◌, length, Ok, Err, IfOk, IfErr, OnOk};
 ghost use Rattle.jd_problem.specs.Problems.{problem_of};
 ghost use Rattle.jd_problem.specs.ProblemTexts.{IsProblemTo};
-ghost use Rattle.jd_judge.specs.Judging.{IsJudged};
-ghost use Rattle.hp16c_commands.specs.Judging.{JudgeAnswers, judge_input, IsJudgementOf, unknown_text, paths_text};
+ghost use Rattle.hp16c_commands.specs.Judging.{JudgeAnswers, IsTellable, judge_input, judgement, unknown_text};
 ghost use Rattle.hp16c_commands.specs.Answered.{answer_of};
+ghost use Rattle.hp16c_commands.specs.Told.{heading_text};
 ghost use Rattle.hp16c_commands.specs.WholeInputs.{limit_of};
 ghost use Rattle.std.specs.String.{string_bytes};
 
 use crate::after_problem::line_after;
 use crate::outcomes::{Kept, Outcome, Status};
 use crate::path_texts::push_path;
-use crate::told::Answer;
+use crate::told::{Answer, Heading};
 use crate::whole_inputs::WholeInput;
 use hp_io::Bytes;
 use jd_judge::{Judged, judge};
@@ -63,7 +64,7 @@ fn nothing_after(problem: &Problem, bytes: &[u8], count: usize) -> Result<(), u6
 }
 
 /// The problem that a text says, or the number of its first bad line.
-fn read_input(bytes: &[u8]) -> Result<Problem, u64>
+pub fn read_input(bytes: &[u8]) -> Result<Problem, u64>
     requires { length bytes.now + 1 < 2 ^ 32 }
     ensures read { IfOk result (λ problem. judge_input bytes.now ≡ Ok (problem_of problem, tt)) }
     ensures fault { IfErr result (λ line. judge_input bytes.now ≡ Err line) }
@@ -87,14 +88,19 @@ fn unknown_line(alloc: Global, path: &[bool], lines: usize) -> Result<String, Al
     Ok(text)
 }
 
-/// What is answered where a problem was judged.
-fn answer_to(alloc: Global, problem: Problem, judged: Judged) -> Result<Answer, AllocError>
-    requires { IsJudged (problem_of problem) judged }
-    ensures { IfOk result (λ answer. IsJudgementOf (problem_of problem) (answer_of answer)) }
+/// What is told of the judge's answer to what was asked of a problem.
+pub fn answer_to(
+    alloc: Global,
+    heading: Heading,
+    problem: Problem,
+    judged: Judged,
+) -> Result<Answer, AllocError>
+    requires { IsTellable (problem_of problem) judged }
+    ensures { IfOk result (λ answer. answer_of answer ≡ judgement (heading_text heading (problem_of problem)) judged) }
 {
     match judged {
-        Judged::Equal(book, cert) => Ok(Answer::certificate(problem, book, cert)),
-        Judged::Different(start) => Ok(Answer::start(problem, start)),
+        Judged::Equal(book, cert) => Ok(Answer::certificate(heading, problem, book, cert)),
+        Judged::Different(start) => Ok(Answer::start(heading, problem, start)),
         Judged::Unknown(leaf, log) => {
             let text = unknown_line(alloc, leaf.path.as_slice(), log.lines().len())?;
             let outcome = Outcome {
@@ -122,7 +128,7 @@ pub fn judge_problem(alloc: Global, bytes: &Bytes, rules: &RuleSet) -> Result<An
 {
     match read_input(bytes.as_slice()) {
         Ok(problem) => match judge(alloc, &problem, rules) {
-            Ok(judged) => answer_to(alloc, problem, judged),
+            Ok(judged) => answer_to(alloc, Heading::Problem, problem, judged),
             Err(_) => Err(AllocError),
         },
         Err(line) => Answer::bad_line(alloc, line),

@@ -2,7 +2,8 @@
 //! the display of each line as it has read it, and `gen` reads nothing. Every other command reads its
 //! source to the end before it answers, and all of these have one form: a limit, what an answer to some
 //! bytes is, and a function that finds one. `check` takes its source line by line; the rest keep the
-//! bytes until they answer.
+//! bytes until they answer. `debug` writes each line of its answer as it comes to it. `judge`, `spec` and
+//! `short` ask one judge, and what it answers is told by one function.
 //!
 //! - Doing what the words say: `hp16c`, which gives an `Outcome` of a `Status` and what is `Kept`.
 #![tactic(auto)]
@@ -11,6 +12,7 @@ mod after_problem;
 mod answers;
 mod checking;
 mod commands;
+mod debugging;
 mod generating;
 mod judging;
 mod key_files;
@@ -20,6 +22,8 @@ mod path_texts;
 mod refusals;
 mod replays;
 mod routines;
+mod shortening;
+mod specifying;
 mod told;
 mod top_call;
 mod whole_inputs;

@@ -3,21 +3,24 @@
 ghost use Rattle.std.specs.Prelude.{◌≡◌, is_ok, if◌then◌else◌};
 ghost use Rattle.hp16c_commands.specs.Outcomes.{number_of};
 
+use hp_asm::Routine;
 use hp_io::Failed;
 use jd_cert::Cert;
 use jd_judge::{Book, Leaf, Path, Starts};
 use jd_logic::{BadLine, Log};
 use jd_problem::Start;
+use jd_short::Refusals;
 
 /// How a command ends. The program ends with the status's number.
 #[derive(Clone, Copy, Debug, PartialEq, Eq)]
 pub enum Status {
     /// The command's good answer is written.
     Done,
-    /// The two routines don't agree from a start: the one that `replay` was given, or that `judge`
-    /// found.
+    /// The two routines don't agree from a start: the one that `replay` was given, or that `judge` found.
+    /// `spec` found one from which the routine doesn't give what it is to give, and `short` one from which
+    /// the routine doesn't agree with itself.
     Different,
-    /// `judge`: a question that the problem's budget of lines didn't decide.
+    /// `judge`, `spec`, `short`: a question that the budget of lines didn't decide.
     Unknown,
     /// The words are no command.
     Usage,
@@ -34,7 +37,7 @@ pub enum Status {
     /// A proof or a certificate has a line that isn't right, or doesn't refute its clauses, or a
     /// certificate doesn't cover every path.
     CertRefused,
-    /// `judge`: there are more paths than the problem allows.
+    /// `judge`, `spec`, `short`: there are more paths than are allowed.
     TooManyPaths,
 }
 
@@ -73,15 +76,25 @@ impl Status {
 #[derive(Drop)]
 pub enum Kept {
     Nothing,
-    /// Of `judge` and `gen`: the leaves and the certificate by which the two routines agree.
+    /// Of `judge` and `gen`: the leaves and the certificate by which the two routines agree. Of `spec`:
+    /// those by which the routine gives what it is to give.
     Judged(Book, Cert),
+    /// Of `short`: a routine that came from the problem's first one by replacements, the leaves and the
+    /// certificate by which the two agree, and why no further piece was replaced.
+    Short {
+        routine: Routine,
+        book: Book,
+        cert: Cert,
+        refusals: Refusals,
+    },
     /// Of `check`: the leaves by which the certificate that was read shows that they agree.
     Checked(Book),
-    /// An allowed start from which the two routines don't agree.
+    /// An allowed start from which the two routines don't agree, or the one routine doesn't give what it is
+    /// to give.
     Start(Start),
     /// The leaf that the budget didn't decide, and the lines that it took.
     Log(Leaf, Log),
-    /// One more allowed start than the problem has paths, each with answers of its own.
+    /// One more allowed start than there may be paths, each with answers of its own.
     Starts(Starts),
     /// The first path at which the certificate's tree doesn't cover.
     Shape(Path),

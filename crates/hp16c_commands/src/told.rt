@@ -7,6 +7,16 @@ use crate::outcomes::Outcome;
 use jd_cert::Cert;
 use jd_judge::Book;
 use jd_problem::{Problem, Start};
+use jd_short::Refusals;
+
+/// What stands before a certificate or a start.
+#[derive(Clone, Copy, Debug, PartialEq, Eq)]
+pub enum Heading {
+    /// The problem.
+    Problem,
+    /// Nothing.
+    Empty,
+}
 
 /// What a command tells.
 #[derive(Drop)]
@@ -16,16 +26,27 @@ pub enum Told {
         outcome: Outcome,
         text: String,
     },
-    /// The routines of a problem agree: the problem, and the certificate, with its leaves.
+    /// What is asked of a problem holds from each start that it allows: the certificate, with its
+    /// leaves, after a heading.
     Certificate {
+        heading: Heading,
         problem: Problem,
         book: Book,
         cert: Cert,
     },
-    /// They don't from a start: the problem, and the start.
+    /// It doesn't hold from a start: the start, after a heading.
     Start {
+        heading: Heading,
         problem: Problem,
         start: Start,
+    },
+    /// A problem's second routine came from its first by replacements, and agrees with it: the problem and
+    /// the certificate, with its leaves, and why no further piece was replaced.
+    Short {
+        problem: Problem,
+        book: Book,
+        cert: Cert,
+        refusals: Refusals,
     },
 }
 

@@ -1,6 +1,7 @@
 //! The commands that read their whole input before they answer: they have one form, a limit, the
 //! answer that is due to some bytes, and a function that finds it. What a fault gives is decided
-//! here, and the answer is written here, once for all of them.
+//! here, and the answer is written here, once for all of them but `debug`, which writes its answer line
+//! by line.
 ghost use Rattle.std.specs.Prelude.{◌≡◌, ◌≢◌, true, Err, ◌+◌, ◌≤◌, length, IfSome, IfOk};
 ghost use Rattle.hp_io.specs.Causes.{CallsAtMost, Rose};
 ghost use Rattle.hp16c_commands.specs.WholeInputs.{limit_of, Answers, IsAnswerTo, IsAnswer};
@@ -8,11 +9,14 @@ ghost use Rattle.hp16c_commands.specs.WholeInputs.{WasGiven, WasCutShort, WasTol
 ghost use Rattle.hp16c_commands.specs.Answered.{answer_of};
 
 use crate::checking::check_certificate;
+use crate::debugging::debug_input;
 use crate::judging::judge_problem;
 use crate::lrat::check_proof;
 use crate::outcomes::{Kept, Outcome, Status};
 use crate::replays::replay_start;
 use crate::routines::{assemble_routine, list_routine};
+use crate::shortening::shorten_problem;
+use crate::specifying::judge_spec;
 use crate::told::Answer;
 use hp_io::{Bytes, Failed, ReadStop, Sink, Source, Taken, read_limited};
 use jd_rules::RuleSet;
@@ -35,6 +39,15 @@ pub enum WholeInput {
     /// `check`: reads a problem and a certificate line by line, and writes what the check says. It
     /// keeps none of what it read.
     Check,
+    /// `debug`: reads a script of keys and commands, and writes what the debugger answers line by line.
+    Debug,
+    /// `spec`: reads what a routine is to give, as formulas over its start, and writes a certificate that
+    /// it does, a start from which it doesn't, or the limit that was met.
+    Spec,
+    /// `short`: reads a problem, replaces pieces of its first routine as long as the judge shows that it
+    /// agrees with the source, and writes the problem of the two with the certificate; or what `judge`
+    /// writes of the source against itself.
+    Short,
 }
 
 impl WholeInput {
@@ -44,9 +57,14 @@ impl WholeInput {
     {
         match self {
             WholeInput::Lrat => 268_435_456,
-            WholeInput::Assemble | WholeInput::List | WholeInput::Judge => 65_536,
+            WholeInput::Assemble
+            | WholeInput::List
+            | WholeInput::Judge
+            | WholeInput::Spec
+            | WholeInput::Short => 65_536,
             WholeInput::Replay => 131_072,
             WholeInput::Check => 268_500_992,
+            WholeInput::Debug => 1_000_000,
         }
     }
 }
@@ -60,6 +78,7 @@ fn find_answer(
 ) -> Result<Answer, AllocError>
     requires within { length bytes.now ≤ limit_of command }
     requires whole { command ≢ WholeInput.Check }
+    requires no_script { command ≢ WholeInput.Debug }
     ensures { IfOk result (λ answer. Answers command bytes.now (answer_of answer)) }
 {
     match command {
@@ -68,7 +87,9 @@ fn find_answer(
         WholeInput::List => list_routine(alloc, bytes),
         WholeInput::Replay => replay_start(alloc, bytes),
         WholeInput::Judge => judge_problem(alloc, bytes, rules),
-        WholeInput::Check => unreachable!(),
+        WholeInput::Spec => judge_spec(alloc, bytes, rules),
+        WholeInput::Short => shorten_problem(alloc, bytes, rules),
+        WholeInput::Check | WholeInput::Debug => unreachable!(),
     }
 }
 
@@ -79,6 +100,7 @@ fn find_in_source<S: Source>(
     source: &mut S,
     rules: &RuleSet,
 ) -> Result<Answer, ReadStop>
+    requires no_script { command ≢ WholeInput.Debug }
     ensures answer { IfOk result (λ answer. IsAnswer command
         (S.left source.old) (S.left source.new) (answer_of answer)) }
     ensures failed { result ≡ Err ReadStop.Failed
@@ -106,6 +128,7 @@ fn read_answer<S: Source>(
     source: &mut S,
     rules: &RuleSet,
 ) -> Result<Answer, ReadStop>
+    requires no_script { command ≢ WholeInput.Debug }
     ensures answer { IfOk result (λ answer. IsAnswer command
         (S.left source.old) (S.left source.new) (answer_of answer)) }
     ensures no_usage { IfOk result (λ answer. (answer_of answer).outcome.status ≢ Status.Usage) }
@@ -151,6 +174,9 @@ pub fn answer_input<S: Source, K: Sink>(
     ensures write_faults { K.faults sink.old ≤ K.faults sink.new }
     ensures calls { CallsAtMost (limit_of command + 1) (S.calls source.old) (S.calls source.new) }
 {
+    if command == WholeInput::Debug {
+        return debug_input(alloc, source, sink);
+    }
     match read_answer(alloc, command, source, rules) {
         Ok(answer) => match answer.write(sink) {
             Ok(()) => answer.outcome(),

@@ -15,7 +15,7 @@ use Rattle.jd_model.proofs.FreeStarts.{bits-of-starts}
 use Rattle.jd_books.specs.Clauses.{gates_clauses, truth_clauses, truths_clauses, is_true_clause, are_true}
 use Rattle.jd_books.specs.Paths.{answers_of_start, begins}
 use Rattle.jd_model.specs.Problems.{in_range, allows}
-use Rattle.jd_books.specs.Leaves.{Leaf, net_of, clauses_of, guards_hold, IsFaithful}
+use Rattle.jd_books.specs.Leaves.{Leaf, net_of, clauses_of, guards_hold, Claim, IsFaithfulTo}
 use Rattle.jd_books.proofs.ClausesTrue.{both}
 use Rattle.jd_books.proofs.Models.{AreOf, forced}
 
@@ -57,9 +57,9 @@ pub record IsModelled (p : Problem) (l : Leaf) (bs : List Bool) : Type 0 where
   pub comes : begins l.path (answers_of_start p (start_of p bs)) ≡ true
   pub differs : eval (net_of l) (bits p (start_of p bs)) l.diff ≡ true
 
-pub modelled : (p : Problem) (l : Leaf) (bs : List Bool) (values : ℕ → Bool) → IsProblem p → IsFaithful p l → length bs ≡ free_bits p → AreOf bs values → are_true values (clauses_of l) ≡ true
+pub modelled : (p : Problem) (claim : Claim) (l : Leaf) (bs : List Bool) (values : ℕ → Bool) → IsProblem p → IsFaithfulTo p claim l → length bs ≡ free_bits p → AreOf bs values → are_true values (clauses_of l) ≡ true
     → IsModelled p l bs
-modelled p l bs values ranges f count begun all =
+modelled p claim l bs values ranges f count begun all =
     let starts = bits-of-starts p ranges in
     let s = start_of p bs in
     let same : bits p s ≡ bs = starts.same_bits bs count in

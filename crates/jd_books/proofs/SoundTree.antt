@@ -15,7 +15,7 @@ use Rattle.jd_model.specs.Problems.{Problem, fields, numbers, bits, free_bits}
 use Rattle.jd_text.proofs.Tests.{left-part}
 use Rattle.jd_model.specs.Assumptions.{meets}
 use Rattle.jd_model.specs.Problems.{in_range, allows}
-use Rattle.jd_model.specs.Seen.{agree, machine_at}
+use Rattle.jd_model.specs.Seen.{machine_at}
 use Rattle.jd_model.proofs.FreeBits.{length-bits_in}
 use Rattle.jd_model.proofs.FreeStarts.{numbers-in-fields}
 use Rattle.jd_trees.specs.declared.Kind.{Kind}
@@ -24,7 +24,7 @@ use Rattle.jd_books.specs.Paths.{reached, after_path, AsksAfter, answers_of_star
 use Rattle.jd_books.specs.Clauses.{are_true, is_true_clause, gates_clauses, truths_clauses, IsUnsatisfiable}
 use Rattle.jd_trees.specs.Trees.{Tree, fork_of, node_of}
 use Rattle.jd_books.specs.Trees.{Place, with_answer, places_from, places, CoversFrom, is_asking}
-use Rattle.jd_books.specs.Leaves.{Leaf, net_of, clauses_of, guards_hold, IsLeaf, IsFaithful}
+use Rattle.jd_books.specs.Leaves.{Leaf, net_of, clauses_of, guards_hold, IsLeaf, Claim, IsFaithfulTo}
 use Rattle.jd_books.specs.Checks.{LogEnd, bad_at, right_lines, log_end, or_bad, or_open, first_bad, first_open}
 use Rattle.jd_books.specs.Laws.{Soundness}
 use Rattle.jd_books.proofs.Fronts.{begins-front}
@@ -89,34 +89,34 @@ pub ranged : (p : Problem) (s : Data) → allows p s ≡ true → in_range p s �
 ranged p s h = left-part (in_range p s) (meets p.assumed s) h
 
 -- the guards of a leaf are true from an allowed start that comes there
-pub guards-true : (p : Problem) (l : Leaf) (s : Data) → IsFaithful p l → allows p s ≡ true → begins l.path (answers_of_start p s) ≡ true → guards_hold l (bits p s) ≡ true
-guards-true p l s f allowed b = f.guards s (ranged p s allowed) ∙ both _ _ allowed b
+pub guards-true : (p : Problem) (claim : Claim) (l : Leaf) (s : Data) → IsFaithfulTo p claim l → allows p s ≡ true → begins l.path (answers_of_start p s) ≡ true → guards_hold l (bits p s) ≡ true
+guards-true p claim l s f allowed b = f.guards s (ranged p s allowed) ∙ both _ _ allowed b
 
 -- where a leaf's clauses can't all be true, no start that comes to it makes `diff` true
-no-difference : (p : Problem) (l : Leaf) (s : Data) → IsFaithful p l → IsUnsatisfiable (clauses_of l) → allows p s ≡ true
+no-difference : (p : Problem) (claim : Claim) (l : Leaf) (s : Data) → IsFaithfulTo p claim l → IsUnsatisfiable (clauses_of l) → allows p s ≡ true
     → begins l.path (answers_of_start p s) ≡ true → eval (net_of l) (bits p s) l.diff ≡ true → ⊥
-no-difference p l s f u allowed b d =
+no-difference p claim l s f u allowed b d =
     let made : are_true (at (values_of (bits p s) l.gates)) (clauses_of l) ≡ true =
-    leaf-true l (bits p s) (length-bits p s (ranged p s allowed) ∙ sym f.inputs) f.leaf (guards-true p l s f allowed b) d in
+    leaf-true l (bits p s) (length-bits p s (ranged p s allowed) ∙ sym f.inputs) f.leaf (guards-true p claim l s f allowed b) d in
     false≢true (sym (u (at (values_of (bits p s) l.gates))) ∙ made)
 
 -- so none comes to a cut
-pub cut-refuted : (p : Problem) (l : Leaf) (s : Data) → IsFaithful p l → IsUnsatisfiable (clauses_of l) → allows p s ≡ true
+pub cut-refuted : (p : Problem) (claim : Claim) (l : Leaf) (s : Data) → IsFaithfulTo p claim l → IsUnsatisfiable (clauses_of l) → allows p s ≡ true
     → begins l.path (answers_of_start p s) ≡ true → l.kind ≡ Cut → ⊥
-cut-refuted p l s f u allowed b is = no-difference p l s f u allowed b (ap (eval (net_of l) (bits p s)) (f.cut is))
+cut-refuted p claim l s f u allowed b is = no-difference p claim l s f u allowed b (ap (eval (net_of l) (bits p s)) (f.cut is))
 
--- and one that comes to a leaf agrees
-pub leaf-agrees : (p : Problem) (l : Leaf) (s : Data) → IsFaithful p l → IsUnsatisfiable (clauses_of l) → allows p s ≡ true
-    → begins l.path (answers_of_start p s) ≡ true → agree p s ≡ true
-leaf-agrees p l s f u allowed b = by_kind l.kind refl
+-- and of one that comes to a leaf the claim holds
+pub leaf-met : (p : Problem) (claim : Claim) (l : Leaf) (s : Data) → IsFaithfulTo p claim l → IsUnsatisfiable (clauses_of l) → allows p s ≡ true
+    → begins l.path (answers_of_start p s) ≡ true → claim s ≡ true
+leaf-met p claim l s f u allowed b = by_kind l.kind refl
   where
-    by_agreement : (a : Bool) → eval (net_of l) (bits p s) l.diff ≡ not a → a ≡ true
-    by_agreement true d = refl
-    by_agreement false d = absurd (no-difference p l s f u allowed b d)
+    by_claim : (a : Bool) → eval (net_of l) (bits p s) l.diff ≡ not a → a ≡ true
+    by_claim true d = refl
+    by_claim false d = absurd (no-difference p claim l s f u allowed b d)
 
-    by_kind : (k : Kind) → l.kind ≡ k → agree p s ≡ true
-    by_kind Whole is = by_agreement (agree p s) (f.whole is s (ranged p s allowed) (guards-true p l s f allowed b)).differs
-    by_kind Cut is = absurd (cut-refuted p l s f u allowed b is)
+    by_kind : (k : Kind) → l.kind ≡ k → claim s ≡ true
+    by_kind Whole is = by_claim (claim s) (f.whole is s (ranged p s allowed) (guards-true p claim l s f allowed b)).differs
+    by_kind Cut is = absurd (cut-refuted p claim l s f u allowed b is)
 
 -- ---- a book
 
@@ -144,12 +144,12 @@ All-unmap P f (y ∷ ys) all zero d inside = All-head P (f y) (map f ys) all
 All-unmap P f (y ∷ ys) all (suc k) d inside = All-unmap P f ys (All-tail P (f y) (map f ys) all) k d (omega (arith, inside))
 
 pub sound : Soundness
-sound p tree book proved s allowed =
+sound p claim tree book proved s allowed =
     let same : map (λ l. l.path) book ≡ map (λ place. place.path) (places tree) = proved.covered.leaves.paths in
     let refuted : All (λ l. IsUnsatisfiable (clauses_of l)) book =
     each-refuted book (places tree) (sym (length-map book (λ l. l.path)) ∙ ap length same ∙ length-map (places tree) (λ place. place.path)) proved.right proved.refuted in
-    let at_leaves : All (GoesOn (agree p s ≡ true) p s) (map (λ l. l.path) book) =
-    All-map (GoesOn (agree p s ≡ true) p s) (λ l. l.path) book
-    (λ k d inside. leaf-agrees p _ s (proved.covered.leaves.faithful k d inside) (refuted k d inside) allowed) in
-    arrives (agree p s ≡ true) p s tree [] (answers_of_start p s) (covers-from p tree [] proved.covered.covers) refl
-    (All-unmap (GoesOn (agree p s ≡ true) p s) (λ place. place.path) (places tree) (subst (All (GoesOn (agree p s ≡ true) p s)) same at_leaves))
+    let at_leaves : All (GoesOn (claim s ≡ true) p s) (map (λ l. l.path) book) =
+    All-map (GoesOn (claim s ≡ true) p s) (λ l. l.path) book
+    (λ k d inside. leaf-met p claim _ s (proved.covered.leaves.faithful k d inside) (refuted k d inside) allowed) in
+    arrives (claim s ≡ true) p s tree [] (answers_of_start p s) (covers-from p tree [] proved.covered.covers) refl
+    (All-unmap (GoesOn (claim s ≡ true) p s) (λ place. place.path) (places tree) (subst (All (GoesOn (claim s ≡ true) p s)) same at_leaves))

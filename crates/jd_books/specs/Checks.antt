@@ -6,7 +6,8 @@ use Rattle.jd_logic.specs.Checking.{State, begun, checked}
 use Rattle.jd_model.specs.Problems.{Problem}
 use Rattle.jd_trees.specs.Trees.{Tree}
 use Rattle.jd_books.specs.Trees.{Place, places, uncovered}
-use Rattle.jd_books.specs.Leaves.{Leaf, clauses_of, IsFaithfulBook}
+use Rattle.jd_model.specs.Seen.{agree}
+use Rattle.jd_books.specs.Leaves.{Claim, Leaf, clauses_of, IsBookTo}
 
 -- what a log does: a bad line with its number, or whether the empty clause is there at its end
 pub data LogEnd : Type 0 where
@@ -55,15 +56,23 @@ abbrev pub IsUncovered : Problem → Tree → List Bool → Type 0
 IsUncovered p tree path = uncovered p tree ≡ Some path
 
 -- a tree that covers, and its faithful book
-pub record IsCovered (p : Problem) (tree : Tree) (book : List Leaf) : Type 0 where
+pub record IsCoveredTo (p : Problem) (claim : Claim) (tree : Tree) (book : List Leaf) : Type 0 where
   pub covers : uncovered p tree ≡ None
-  pub leaves : IsFaithfulBook p tree book
+  pub leaves : IsBookTo p claim (places tree) book
 
 -- all lines are right, and each leaf and cut is refuted
-pub record IsProved (p : Problem) (tree : Tree) (book : List Leaf) : Type 0 where
-  pub covered : IsCovered p tree book
+pub record IsProvedTo (p : Problem) (claim : Claim) (tree : Tree) (book : List Leaf) : Type 0 where
+  pub covered : IsCoveredTo p claim tree book
   pub right : first_bad book (places tree) ≡ None
   pub refuted : first_open book (places tree) ≡ None
+
+-- ---- where both routines are to agree
+
+abbrev pub IsCovered : Problem → Tree → List Leaf → Type 0
+IsCovered p = IsCoveredTo p (agree p)
+
+abbrev pub IsProved : Problem → Tree → List Leaf → Type 0
+IsProved p = IsProvedTo p (agree p)
 
 pub record IsBadAt (p : Problem) (tree : Tree) (book : List Leaf) (bad : BadAt) : Type 0 where
   pub covered : IsCovered p tree book

@@ -6,14 +6,15 @@ use Rattle.jd_model.specs.Problems.{Problem}
 use Rattle.jd_books.specs.Clauses.{IsUnsatisfiable}
 use Rattle.jd_trees.specs.Trees.{Tree, preorder}
 use Rattle.jd_books.specs.Trees.{Covers, uncovered, places}
-use Rattle.jd_books.specs.Leaves.{Leaf}
+use Rattle.jd_books.specs.Leaves.{Claim, Leaf}
 use Rattle.jd_books.specs.Nodes.{after_nodes, places_along, uncovered_along}
-use Rattle.jd_books.specs.Outcomes.{AllAgree}
-use Rattle.jd_books.specs.Checks.{right_lines, log_end_from, IsProved}
+use Rattle.jd_books.specs.Outcomes.{AllMeet}
+use Rattle.jd_books.specs.Checks.{right_lines, log_end_from, IsProvedTo}
 
--- where a tree covers, and the lines of each leaf and cut refute its leaf in a faithful book, all allowed starts agree
+-- where a tree covers, and the lines of each leaf and cut refute its leaf in a faithful book, the claim holds of all allowed
+-- starts
 abbrev pub Soundness : Type 0
-Soundness = (p : Problem) (tree : Tree) (book : List Leaf) → IsProved p tree book → AllAgree p
+Soundness = (p : Problem) (claim : Claim) (tree : Tree) (book : List Leaf) → IsProvedTo p claim tree book → AllMeet p claim
 
 -- clauses from which right lines derive the empty clause can't all be true
 abbrev pub Refutations : Type 0

@@ -43,24 +43,36 @@ pub record IsLeaf (l : Leaf) : Type 0 where
   pub gates : IsWired l.inputs l.gates
   pub literals : All (IsLit (l.inputs + length l.gates)) (l.guards ++ l.diff ∷ [])
 
--- what a leaf's `diff` means from a start that comes to it
-pub record IsWholeAt (p : Problem) (l : Leaf) (s : Data) : Type 0 where
-  pub over : OverAfter p l.path
-  pub differs : eval (net_of l) (bits p s) l.diff ≡ not (agree p s)
+-- what is asked of each allowed start, as that both routines agree
+abbrev pub Claim : Type 0
+Claim = Data → Bool
 
-pub record IsFaithful (p : Problem) (l : Leaf) : Type 0 where
+-- what a leaf's `diff` means from a start that comes to it: the claim is false
+pub record IsWholeAt (p : Problem) (claim : Claim) (l : Leaf) (s : Data) : Type 0 where
+  pub over : OverAfter p l.path
+  pub differs : eval (net_of l) (bits p s) l.diff ≡ not (claim s)
+
+pub record IsFaithfulTo (p : Problem) (claim : Claim) (l : Leaf) : Type 0 where
   pub inputs : l.inputs ≡ free_bits p
   pub leaf : IsLeaf l
   pub walked : IsWalked p l.path
   pub guards : (s : Data) → in_range p s ≡ true → guards_hold l (bits p s) ≡ (allows p s && begins l.path (answers_of_start p s))
-  pub whole : l.kind ≡ Whole → (s : Data) → in_range p s ≡ true → guards_hold l (bits p s) ≡ true → IsWholeAt p l s
+  pub whole : l.kind ≡ Whole → (s : Data) → in_range p s ≡ true → guards_hold l (bits p s) ≡ true → IsWholeAt p claim l s
   pub cut : l.kind ≡ Cut → l.diff ≡ Const true
 
 -- one faithful leaf for each of some places, in their order
-pub record IsBookOf (p : Problem) (at : List Place) (book : List Leaf) : Type 0 where
+pub record IsBookTo (p : Problem) (claim : Claim) (at : List Place) (book : List Leaf) : Type 0 where
   pub paths : map (λ l. l.path) book ≡ map (λ place. place.path) at
   pub kinds : map (λ l. l.kind) book ≡ map (λ place. place.kind) at
-  pub faithful : All (IsFaithful p) book
+  pub faithful : All (IsFaithfulTo p claim) book
+
+-- ---- where both routines are to agree
+
+abbrev pub IsFaithful : Problem → Leaf → Type 0
+IsFaithful p = IsFaithfulTo p (agree p)
+
+abbrev pub IsBookOf : Problem → List Place → List Leaf → Type 0
+IsBookOf p = IsBookTo p (agree p)
 
 -- one faithful leaf for each leaf and cut of a tree, in preorder
 abbrev pub IsFaithfulBook : Problem → Tree → List Leaf → Type 0

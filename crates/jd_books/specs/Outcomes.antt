@@ -5,11 +5,16 @@ use Rattle.jd_model.specs.Problems.{Problem}
 use Rattle.jd_model.specs.Problems.{allows}
 use Rattle.jd_model.specs.Seen.{agree}
 use Rattle.jd_books.specs.Paths.{answers_of_start}
+use Rattle.jd_books.specs.Leaves.{Claim}
+
+-- an allowed start of which the claim is false
+pub record IsCounterexample (p : Problem) (claim : Claim) (s : Data) : Type 0 where
+  pub allowed : allows p s ≡ true
+  pub differs : claim s ≡ false
 
 -- an allowed start from which the routines don't agree
-pub record IsDifference (p : Problem) (s : Data) : Type 0 where
-  pub allowed : allows p s ≡ true
-  pub differs : agree p s ≡ false
+abbrev pub IsDifference : Problem → Data → Type 0
+IsDifference p = IsCounterexample p (agree p)
 
 -- no two of the starts give the same answers
 abbrev pub HaveOwnAnswers : Problem → List Data → Type 0
@@ -21,6 +26,10 @@ pub record AreTooMany (p : Problem) (starts : List Data) : Type 0 where
   pub allowed : All (λ s. allows p s ≡ true) starts
   pub different : HaveOwnAnswers p starts
 
+-- where the claim holds of all allowed starts
+abbrev pub AllMeet : Problem → Claim → Type 0
+AllMeet p claim = (s : Data) → allows p s ≡ true → claim s ≡ true
+
 -- where all allowed starts agree
 abbrev pub AllAgree : Problem → Type 0
-AllAgree p = (s : Data) → allows p s ≡ true → agree p s ≡ true
+AllAgree p = AllMeet p (agree p)

@@ -2,6 +2,7 @@
 use Rattle.std.proofs.Common.{◌≡◌, Bool, List, Option, Some, None, sym, ap, ◌∙◌}
 use Rattle.std.proofs.lemmas.Bool.{false≢true}
 use Rattle.jd_trees.specs.Trees.{Tree}
+use Rattle.jd_model.specs.Seen.{agree}
 use Rattle.jd_books.specs.Leaves.{Leaf}
 use Rattle.jd_books.specs.Trees.{places, uncovered}
 use Rattle.jd_books.specs.Checks.{BadAt, first_bad, first_open}
@@ -10,7 +11,7 @@ use Rattle.jd_check.specs.declared.checked.Checked.TheVariants as c
 use Rattle.jd_check.specs.Laws.{OneRightAnswer, Sound}
 
 pub checked-sound : Sound
-checked-sound p tree (c.Equal book) h e = sound p tree book h
+checked-sound p tree (c.Equal book) h e = sound p (agree p) tree book h
 checked-sound p tree (c.Shape path) h e = absurd (false≢true e)
 checked-sound p tree (c.Bad book path line cause) h e = absurd (false≢true e)
 checked-sound p tree (c.More book path) h e = absurd (false≢true e)

@@ -181,6 +181,10 @@ pub still : {X : Type 0} {F : X → Type 0} {M : _} (p : Problem) (events : List
 still p events run part (Some path) looked h = absurd (false≢true (sym looked))
 still p events run part None looked h = subst (IsRight p events run part) looked h
 
+pub covers : (shape : Option Path) (whole : Bool) → (is_some shape || whole) ≡ false → shape ≡ None
+covers None whole looked = refl
+covers (Some path) whole looked = absurd (false≢true (sym looked))
+
 pub over : (shape : Option Path) (whole : Bool) → (is_some shape || whole) ≡ true → shape ≡ None → whole ≡ true
 over (Some path) whole yes_over e = cc
 over None whole yes_over e = yes_over

@@ -12,6 +12,7 @@ use Rattle.jd_trees.specs.declared.Node.TheVariants.{Fork}
 use Rattle.jd_trees.specs.Trees.{Tree, preorder, node}
 use Rattle.jd_books.specs.Trees.{places, Place, with_answer, or_first, fork_fault, leaf_fault}
 use Rattle.jd_books.specs.Nodes.{after_node, node_fault, after_nodes, places_along, uncovered_along, place_at}
+use Rattle.jd_model.specs.Seen.{agree}
 use Rattle.jd_books.specs.Leaves.{IsFaithful, IsBookOf}
 use Rattle.jd_books.specs.Checks.{LogEnd, log_end, or_bad, or_open, first_bad, first_open, IsCovered}
 use Rattle.jd_books.proofs.InOrder.{places-whole as places-tree, uncovered-whole as uncovered-tree}
@@ -20,7 +21,7 @@ use Rattle.jd_leaves.specs.declared.leaf.Leaf.{Leaf}
 use Rattle.jd_leaves.specs.declared.lists.Path.{Path}
 use Rattle.jd_leaves.specs.Views.{leaf_of}
 use Rattle.jd_walk.specs.Leaves.{IsLeafOf}
-use Rattle.jd_walk.specs.Walked.{Walked, answered, back_from}
+use Rattle.jd_walk.specs.Walked.{Walked, answered, back_at, back_from}
 use Rattle.jd_check.specs.Progress.{log_after, bad_of, path_of, next_of, IsTaken, IsNext, IsOpen}
 use Rattle.jd_check.specs.declared.progress.Open.{Open}
 use Rattle.jd_check.proofs.Taking.{uncovered-push, places-push, after-push, bad-push, open-push, book-push, asks-none, uncovered-whole, places-whole, after-whole, over-no-fork}
@@ -80,7 +81,7 @@ leaf-taken p nodes kind log old new leaf end open_yet h right path kind_is faith
       covered = uncovered-push p (Some []) nodes (node kind log) old.walk.path at ∙ ap (λ o. or_first o (node_fault p old.walk.path (node kind log))) h.covered ∙ node-fault p old.walk.path kind log ∙ right;
       next = after-push (Some []) nodes (node kind log) old.walk.path at ∙ node-after old.walk.path kind log ∙ sym next;
       leaves = subst (λ r. IsBookOf p r new.book) (sym more)
-          (subst (IsBookOf p (ps ++ q ∷ [])) (sym book) (book-push p ps q old.book (leaf_of leaf) h.leaves path kind_is faithful));
+          (subst (IsBookOf p (ps ++ q ∷ [])) (sym book) (book-push p (agree p) ps q old.book (leaf_of leaf) h.leaves path kind_is faithful));
       bad = ap (first_bad new.book) more ∙ ap (λ b. first_bad b (ps ++ q ∷ [])) book
           ∙ bad-push old.book ps (leaf_of leaf) q (book-length p nodes old h)
           ∙ ap (λ o. or_first o (or_bad old.walk.path (log_end (leaf_of leaf) log) None)) h.bad
@@ -161,11 +162,11 @@ pub record IsBack (old new : Walked) : Type 0 where
   pub spent : new.spent ≡ old.spent
   pub next : (elim (not (is_some (next_path old.path))) as (λ _. Option (List Bool)) [ true ↦ None | false ↦ Some new.path ]) ≡ next_path old.path
 
-is-back : (old new : Walked) → IsBack old (back_from old new)
-is-back old new = by_next (next_path old.path) refl
+is-back : (old : Walked) → IsBack old (back_from old)
+is-back old = by_next (next_path old.path) refl
   where
     by_next : (o : Option (List Bool)) → next_path old.path ≡ o → IsBack old (elim o as (λ _. Walked) [
-      | Some path ↦ record old { net = new.net; path = path; guards = new.guards; next = None }
+      | Some path ↦ back_at old path
       | None ↦ old
     ])
     by_next None e = record { problem = refl; spent = refl; next = ap (λ o. elim (not (is_some o)) as (λ _. Option (List Bool)) [ true ↦ None | false ↦ Some old.path ]) e ∙ sym e }
@@ -200,12 +201,12 @@ opened p nodes kind old new o going h problem path spent whole book bad open_fir
 }
 
 pub ended : {X : Type 0} {F : X → Type 0} {M : _} (p : Problem) (nodes : List Node) (kind : Kind) (log : List Line) (old new : Progress X F M) (o : Open) → IsOpen p nodes kind log old o
-    → new.walk ≡ back_from old.walk new.walk → new.whole ≡ not (is_some (next_path old.walk.path)) → new.book ≡ old.book ++ leaf_of o.leaf ∷ []
+    → new.walk ≡ back_from old.walk → new.whole ≡ not (is_some (next_path old.walk.path)) → new.book ≡ old.book ++ leaf_of o.leaf ∷ []
     → bad_of new.bad ≡ or_first (bad_of old.bad) (or_bad o.leaf.path (log_after o.check []) None)
     → path_of new.unrefuted ≡ or_first (path_of old.unrefuted) (or_open o.leaf.path (log_after o.check []) None)
     → IsTaken p (nodes ++ node kind log ∷ []) new
 ended p nodes kind log old new o h walk whole book bad open_first =
-    let back : IsBack old.walk new.walk = subst (IsBack old.walk) (sym walk) (is-back old.walk new.walk) in
+    let back : IsBack old.walk new.walk = subst (IsBack old.walk) (sym walk) (is-back old.walk) in
     leaf-taken p nodes kind log old new o.leaf (log_after o.check []) h.going h.taken h.right h.leaf.path h.leaf.kind_is
     (subst (λ q. IsFaithful q (leaf_of o.leaf)) h.taken.problem h.leaf.faithful)
     (ap (log_end (leaf_of o.leaf)) (sym (append-nil log)) ∙ h.lines []) back.problem (back.spent ∙ h.taken.unspent)

@@ -8,7 +8,7 @@ use Rattle.jd_books.specs.Paths.{AsksAfter, OverAfter}
 use Rattle.jd_trees.specs.declared.Node.{Node}
 use Rattle.jd_books.specs.Trees.{Place, or_first, wrong_unless, is_asking, is_over, fork_fault, leaf_fault}
 use Rattle.jd_books.specs.Nodes.{after_node, node_fault, place_at, after_nodes, places_along, uncovered_along}
-use Rattle.jd_books.specs.Leaves.{Leaf, IsFaithful, IsBookOf}
+use Rattle.jd_books.specs.Leaves.{Leaf, Claim, IsFaithfulTo, IsBookTo}
 use Rattle.jd_books.specs.Checks.{LogEnd, bad_at, right_lines, log_end, BadAt, or_bad, first_bad, or_open, first_open}
 
 or-first-assoc : {A : Type 0} (a b c : Option A) → or_first (or_first a b) c ≡ or_first a (or_first b c)
@@ -83,12 +83,12 @@ open-push (k ∷ book) (x ∷ ps) l q n =
     ap (or_open x.path (log_end k x.log)) (open-push book ps l q (omega (arith, n)))
     ∙ or-open-first x.path (log_end k x.log) (first_open book ps) (or_open q.path (log_end l q.log) None)
 
-pub book-push : (p : Problem) (ps : List Place) (q : Place) (book : List Leaf) (l : Leaf) → IsBookOf p ps book → l.path ≡ q.path → l.kind ≡ q.kind → IsFaithful p l
-    → IsBookOf p (ps ++ q ∷ []) (book ++ l ∷ [])
-book-push p ps q book l b path kind faithful = record {
+pub book-push : (p : Problem) (claim : Claim) (ps : List Place) (q : Place) (book : List Leaf) (l : Leaf) → IsBookTo p claim ps book → l.path ≡ q.path → l.kind ≡ q.kind → IsFaithfulTo p claim l
+    → IsBookTo p claim (ps ++ q ∷ []) (book ++ l ∷ [])
+book-push p claim ps q book l b path kind faithful = record {
   paths = map-append (λ l. l.path) book (l ∷ []) ∙ ap (λ r. r ++ l.path ∷ []) b.paths ∙ ap (λ x. map (λ place. place.path) ps ++ x ∷ []) path ∙ sym (map-append (λ place. place.path) ps (q ∷ []));
   kinds = map-append (λ l. l.kind) book (l ∷ []) ∙ ap (λ r. r ++ l.kind ∷ []) b.kinds ∙ ap (λ x. map (λ place. place.kind) ps ++ x ∷ []) kind ∙ sym (map-append (λ place. place.kind) ps (q ∷ []));
-  faithful = All-push (IsFaithful p) book l b.faithful faithful;
+  faithful = All-push (IsFaithfulTo p claim) book l b.faithful faithful;
 }
 
 -- ---- whether a node may stand

@@ -1,5 +1,5 @@
 -- What a check in progress has come to, and what it answers.
-use Rattle.std.specs.Prelude.{◌≡◌, ◌+◌, Bool, true, false, List, ◌++◌, Option, Some, None}
+use Rattle.std.specs.Prelude.{◌≡◌, ◌+◌, ◌||◌, is_some, Bool, true, false, List, ◌++◌, Option, Some, None}
 use Rattle.jd_logic.specs.declared.Line.{Line}
 use Rattle.jd_model.specs.Problems.{Problem}
 use Rattle.jd_trees.specs.declared.CertEvent.{CertEvent}
@@ -18,7 +18,7 @@ use Rattle.jd_check.specs.declared.going.Event.TheVariants as e
 use Rattle.jd_check.specs.declared.going.Going.{Going}
 use Rattle.jd_check.specs.declared.progress.Open.{Open}
 use Rattle.jd_check.specs.declared.progress.Progress.{Progress}
-use Rattle.jd_check.specs.declared.run.CheckRun.{CheckRun}
+use Rattle.jd_check.specs.declared.going.CheckRun.{CheckRun}
 use Rattle.jd_check.specs.Events.{Begins, open_lines}
 use Rattle.jd_check.specs.Progress.{IsOpen, IsTaken}
 
@@ -76,17 +76,20 @@ IsWrongOrNot p events run part None = IsRight p events run part run.whole
 abbrev pub IsGoing : {X : Type 0} {F : X → Type 0} {M : _} → Problem → List CertEvent → Going X F M → Type 0
 IsGoing p events g = IsWrongOrNot p events g.progress g.part g.shape
 
--- nothing is known of a spent check
-abbrev pub IsGoingOrSpent : {X : Type 0} {F : X → Type 0} {M : _} → Problem → List CertEvent → Option (Going X F M) → Type 0
-IsGoingOrSpent p events None = Unit {0}
-IsGoingOrSpent p events (Some g) = IsGoing p events g
-
--- a check to which these events have come, of a problem
+-- a check to which these events have come, of a problem. Nothing is known of a spent one
 abbrev pub IsChecking : {X : Type 0} {F : X → Type 0} {M : _} → Problem → List CertEvent → CheckRun X F M → Type 0
-IsChecking p events run = IsGoingOrSpent p events run.going
+IsChecking p events run = run.spent ≡ false → IsGoing p events run.going
 
 abbrev pub is_spent : {X : Type 0} {F : X → Type 0} {M : _} → CheckRun X F M → Bool
-is_spent run = elim run.going [ None ↦ true | Some g ↦ false ]
+is_spent run = run.spent
+
+-- whether no event is looked at any more: the tree doesn't cover, or is whole
+abbrev pub is_over : {X : Type 0} {F : X → Type 0} {M : _} → CheckRun X F M → Bool
+is_over run = is_some run.going.shape || run.going.progress.whole
+
+-- all that a check has come to is as it was
+abbrev pub IsUnchanged : {X : Type 0} {F : X → Type 0} {M : _} → CheckRun X F M → CheckRun X F M → Type 0
+IsUnchanged old new = new.going ≡ old.going
 
 -- what is answered on a tree
 abbrev pub IsChecked : Problem → Tree → Checked → Type 0

@@ -5,6 +5,7 @@ ghost use Rattle.std.specs.Prelude.{◌≡◌, false};
 use crate::progress::{Open, Progress};
 use jd_logic::Line;
 use jd_walk::{Kind, Path};
+use std::alloc::Global;
 
 /// The nodes that were taken, the leaf or cut that is open, and the first path at which the tree
 /// doesn't cover. Once that is found, or the tree is whole, no event is looked at.
@@ -12,7 +13,6 @@ pub struct Going<'r> {
     pub progress: Progress<'r>,
     pub part: Option<Open>,
     pub shape: Option<Path>,
-    pub ghost unspent: { progress.walk.spent ≡ false },
 }
 
 impl Drop for Going<'_> {
@@ -26,20 +26,28 @@ impl Drop for Going<'_> {
 }
 
 impl<'r> Going<'r> {
-    /// The nodes that were taken, what is open, and where the tree doesn't cover.
-    pub fn into_parts(self) -> (Progress<'r>, Option<Open>, Option<Path>)
+    /// What is kept of the nodes that were taken, and where the tree doesn't cover.
+    pub fn into_parts(self) -> (Progress<'r>, Option<Path>)
         ensures progress { result.0 ≡ self.entry.progress }
-        ensures part { result.1 ≡ self.entry.part }
-        ensures shape { result.2 ≡ self.entry.shape }
-        ensures unspent { result.0.walk.spent ≡ false }
+        ensures shape { result.1 ≡ self.entry.shape }
     {
         let Going {
             progress,
-            part,
+            part: _part,
             shape,
         } = self;
-        (progress, part, shape)
+        (progress, shape)
     }
+}
+
+/// A check of a certificate whose events come one after another.
+#[derive(Drop)]
+pub struct CheckRun<'r> {
+    pub(crate) alloc: Global,
+    pub(crate) going: Going<'r>,
+    /// Whether memory ran out.
+    pub(crate) spent: bool,
+    pub(crate) ghost unspent: { spent ≡ false → going.progress.walk.spent ≡ false },
 }
 
 /// An event of a certificate. A line is lent by whoever keeps it.

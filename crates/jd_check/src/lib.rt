@@ -18,6 +18,6 @@ mod turns;
 mod whole;
 
 pub use checked::Checked;
+pub use going::CheckRun;
 pub use jd_walk::{Book, Kind, Leaf, Path};
-pub use run::CheckRun;
 pub use whole::check;

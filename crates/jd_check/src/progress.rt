@@ -1,5 +1,6 @@
 //! What a check keeps of the nodes that it has taken: the walk, the book, and the first fault of
 //! each kind. The answer is made of it once the tree is whole.
+ghost use Rattle.std.specs.Prelude.{◌≡◌};
 ghost use Rattle.jd_model.specs.Problems.{Problem};
 ghost use Rattle.jd_trees.specs.Trees.{Tree};
 ghost use Rattle.jd_check.specs.Runs.{IsChecked, IsTakenOf};
@@ -55,9 +56,11 @@ impl Drop for Progress<'_> {
 }
 
 impl Progress<'_> {
-    /// What is answered where all nodes were taken.
-    pub fn answer(self) -> Checked
-        ensures { (p : Problem) (tree : Tree) → IsTakenOf p tree self.entry → IsChecked p tree result }
+    /// The book and the first faults. The walk is let go.
+    fn into_faults(self) -> (Book, Option<Bad>, Option<Path>)
+        ensures book { result.0 ≡ self.entry.book }
+        ensures bad { result.1 ≡ self.entry.bad }
+        ensures unrefuted { result.2 ≡ self.entry.unrefuted }
     {
         let Progress {
             walk: _walk,
@@ -66,6 +69,14 @@ impl Progress<'_> {
             bad,
             unrefuted,
         } = self;
+        (book, bad, unrefuted)
+    }
+
+    /// What is answered where all nodes were taken.
+    pub fn answer(self) -> Checked
+        ensures { (p : Problem) (tree : Tree) → IsTakenOf p tree self.entry → IsChecked p tree result }
+    {
+        let (book, bad, unrefuted) = self.into_faults();
         match bad {
             Some(bad) => {
                 let Bad { path, line, cause } = bad;

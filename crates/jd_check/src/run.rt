@@ -7,10 +7,10 @@ ghost use Rattle.jd_trees.specs.declared.CertEvent.{CertEvent};
 ghost use Rattle.jd_trees.specs.Trees.{Tree, preorder};
 ghost use Rattle.jd_trees.specs.Events.{events_of};
 ghost use Rattle.jd_check.specs.Events.{BeginsTree, IsShort};
-ghost use Rattle.jd_check.specs.Runs.{IsChecked, IsChecking, event_of, is_spent};
+ghost use Rattle.jd_check.specs.Runs.{IsChecked, IsChecking, IsUnchanged, event_of, is_over, is_spent};
 
 use crate::checked::Checked;
-use crate::going::{Event, Going};
+use crate::going::{CheckRun, Event, Going};
 use crate::progress::Progress;
 use crate::turns::{advance, answer_of};
 use hp_io::NoMemory;
@@ -19,14 +19,6 @@ use jd_rules::RuleSet;
 use jd_trees::CertEvent;
 use jd_walk::{Book, Kind, Walk};
 use std::alloc::Global;
-
-/// A check of a certificate whose events come one after another.
-#[derive(Drop)]
-pub struct CheckRun<'r> {
-    alloc: Global,
-    /// None once memory ran out.
-    going: Option<Going<'r>>,
-}
 
 impl<'r> CheckRun<'r> {
     /// A check to which no event has come.
@@ -48,11 +40,12 @@ impl<'r> CheckRun<'r> {
         };
         Ok(CheckRun {
             alloc,
-            going: Some(Going {
+            going: Going {
                 progress,
                 part: None,
                 shape: None,
-            }),
+            },
+            spent: false,
         })
     }
 
@@ -60,33 +53,31 @@ impl<'r> CheckRun<'r> {
     pub(crate) fn hear(&mut self, event: Event<'_>) -> Result<(), NoMemory>
         ensures taken { OnOk result ((p : ProblemOf) (events : List CertEvent) → IsChecking p events self.old → BeginsTree (events ++ event_of event.entry ∷ [])
             → IsShort events → IsChecking p (events ++ event_of event.entry ∷ []) self.new) }
+        ensures over { OnOk result (is_over self.old ≡ true → IsUnchanged self.old self.new) }
         ensures unspent { OnOk result ((is_spent self.old ≡ false) × (is_spent self.new ≡ false)) }
         ensures spent { OnErr result (is_spent self.new ≡ true) }
     {
-        let Some(going) = self.going.take() else {
+        if self.spent {
             return Err(NoMemory);
-        };
-        let next = advance(self.alloc, going, event)?;
-        self.going = Some(next);
+        }
+        self.spent = true;
+        advance(self.alloc, &mut self.going, event)?;
+        self.spent = false;
         Ok(())
     }
 
-    /// Takes the next event of a certificate. `Nothing` is none, and changes nothing. After NoMemory
-    /// the run is spent: this and `finish` answer NoMemory from then on.
+    /// Takes the next event of a certificate. `Nothing` is none, and changes nothing, nor does any
+    /// event once the tree is whole or doesn't cover. After NoMemory the run is spent: this and
+    /// `finish` answer NoMemory from then on.
     pub fn event(&mut self, event: &CertEvent) -> Result<(), NoMemory>
         ensures taken { OnOk result ((p : ProblemOf) (events : List CertEvent) → IsChecking p events self.old → BeginsTree (events ++ event.now ∷ [])
             → IsShort events → IsChecking p (events ++ event.now ∷ []) self.new) }
+        ensures over { OnOk result (is_over self.old ≡ true → IsUnchanged self.old self.new) }
         ensures unspent { OnOk result ((is_spent self.old ≡ false) × (is_spent self.new ≡ false)) }
         ensures spent { OnErr result (is_spent self.new ≡ true) }
     {
         match event {
-            CertEvent::Nothing => {
-                if self.going.is_some() {
-                    Ok(())
-                } else {
-                    Err(NoMemory)
-                }
-            }
+            CertEvent::Nothing => { if self.spent { Err(NoMemory) } else { Ok(()) } }
             CertEvent::Fork => {
                 self.hear(Event::Fork)?;
                 Ok(())
@@ -116,10 +107,15 @@ impl<'r> CheckRun<'r> {
         ensures unspent { OnOk result (is_spent self.entry ≡ false) }
         ensures spent { OnErr result (is_spent self.entry ≡ true) }
     {
-        let CheckRun { alloc: _, going } = self;
-        match going {
-            None => Err(NoMemory),
-            Some(going) => Ok(answer_of(going)),
+        let CheckRun {
+            alloc: _,
+            going,
+            spent,
+        } = self;
+        if spent {
+            return Err(NoMemory);
         }
+        let checked = answer_of(going);
+        Ok(checked)
     }
 }

@@ -1,6 +1,6 @@
 //! What an event makes of a check: a node opened, a line checked, a node ended. No event is looked
 //! at once the tree is whole or doesn't cover.
-ghost use Rattle.std.specs.Prelude.{◌≡◌, ◌∷◌, ◌++◌, ◌||◌, [], List, false, is_some, IfOk};
+ghost use Rattle.std.specs.Prelude.{◌≡◌, ◌∷◌, ◌++◌, ◌||◌, [], List, false, true, is_some, None, Some, OnOk};
 ghost use Rattle.jd_model.specs.Problems.{Problem};
 ghost use Rattle.jd_trees.specs.declared.CertEvent.{CertEvent};
 ghost use Rattle.jd_trees.specs.Events.{begun_events, events_of};
@@ -11,125 +11,88 @@ ghost use Rattle.jd_check.specs.Runs.{IsBetween, IsChecked, IsGoing, IsInside, e
 use crate::checked::Checked;
 use crate::going::{Event, Going};
 use crate::nodes::{end, fork, open};
-use crate::progress::{Open, Opened, Progress};
+use crate::progress::{Open, Opened};
 use hp_io::NoMemory;
 use jd_logic::Line;
 use jd_walk::Kind;
 use std::alloc::Global;
 
 /// Opens a leaf or a cut.
-fn begin(alloc: Global, progress: Progress<'_>, kind: Kind) -> Result<Going<'_>, NoMemory>
-    requires unspent { progress.walk.spent ≡ false }
-    ensures { IfOk result (λ g. (p : Problem) (events : List CertEvent) → IsBetween p events progress.entry → IsGoing p (events ++ begun_events kind []) g) }
+fn begin(alloc: Global, going: &mut Going<'_>, kind: Kind) -> Result<(), NoMemory>
+    requires unspent { going.old.progress.walk.spent ≡ false }
+    requires closed { going.old.part ≡ None }
+    requires covers { going.old.shape ≡ None }
+    ensures unspent { OnOk result (going.new.progress.walk.spent ≡ false) }
+    ensures going { OnOk result ((p : Problem) (events : List CertEvent) → IsBetween p events going.old.progress → IsGoing p (events ++ begun_events kind []) going.new) }
 {
-    let mut progress = progress;
-    match open(alloc, &mut progress, kind)? {
-        Opened::Open(part) => Ok(Going {
-            progress,
-            part: Some(part),
-            shape: None,
-        }),
-        Opened::Shape(path) => Ok(Going {
-            progress,
-            part: None,
-            shape: Some(path),
-        }),
+    match open(alloc, &mut going.progress, kind)? {
+        Opened::Open(part) => going.part = Some(part),
+        Opened::Shape(path) => going.shape = Some(path),
     }
+    Ok(())
 }
 
 /// Takes a fork.
-fn branch(alloc: Global, progress: Progress<'_>) -> Result<Going<'_>, NoMemory>
-    ensures { IfOk result (λ g. (p : Problem) (events : List CertEvent) → IsBetween p events progress.entry → IsGoing p (events ++ event_of Event.Fork ∷ []) g) }
+fn branch(alloc: Global, going: &mut Going<'_>) -> Result<(), NoMemory>
+    requires closed { going.old.part ≡ None }
+    ensures unspent { OnOk result (going.new.progress.walk.spent ≡ false) }
+    ensures going { OnOk result ((p : Problem) (events : List CertEvent) → IsBetween p events going.old.progress → IsGoing p (events ++ event_of Event.Fork ∷ []) going.new) }
 {
-    let mut progress = progress;
-    let shape = fork(alloc, &mut progress)?;
-    Ok(Going {
-        progress,
-        part: None,
-        shape,
-    })
+    let shape = fork(alloc, &mut going.progress)?;
+    going.shape = shape;
+    Ok(())
 }
 
 /// Takes an event where no leaf or cut is open.
-fn at_node<'r>(
-    alloc: Global,
-    progress: Progress<'r>,
-    event: Event<'_>,
-) -> Result<Going<'r>, NoMemory>
-    requires unspent { progress.walk.spent ≡ false }
-    ensures { IfOk result (λ g. (p : Problem) (events : List CertEvent) → IsBetween p events progress.entry → BeginsTree (events ++ event_of event.entry ∷ [])
-        → IsGoing p (events ++ event_of event.entry ∷ []) g) }
+fn at_node(alloc: Global, going: &mut Going<'_>, event: Event<'_>) -> Result<(), NoMemory>
+    requires unspent { going.old.progress.walk.spent ≡ false }
+    requires closed { going.old.part ≡ None }
+    requires covers { going.old.shape ≡ None }
+    ensures unspent { OnOk result (going.new.progress.walk.spent ≡ false) }
+    ensures going { OnOk result ((p : Problem) (events : List CertEvent) → IsBetween p events going.old.progress → BeginsTree (events ++ event_of event.entry ∷ [])
+        → IsGoing p (events ++ event_of event.entry ∷ []) going.new) }
 {
     match event {
         Event::Fork => {
-            let next = branch(alloc, progress)?;
-            Ok(next)
+            branch(alloc, going)?;
+            Ok(())
         }
         Event::Begin(kind) => {
-            let next = begin(alloc, progress, kind)?;
-            Ok(next)
+            begin(alloc, going, kind)?;
+            Ok(())
         }
-        Event::Line(_) | Event::End => Ok(Going {
-            progress,
-            part: None,
-            shape: None,
-        }),
+        Event::Line(_) | Event::End => Ok(()),
     }
 }
 
-/// Checks a line of the leaf or cut that is open.
-fn add_line<'r>(progress: Progress<'r>, part: Open, line: &Line) -> Result<Going<'r>, NoMemory>
-    requires unspent { progress.walk.spent ≡ false }
-    ensures { IfOk result (λ g. (p : Problem) (events : List CertEvent) → IsInside p events progress.entry part → IsShort events
-        → IsGoing p (events ++ CertEvent.Proof line.now ∷ []) g) }
-{
-    let mut part = part;
-    part.check.step(line)?;
-    Ok(Going {
-        progress,
-        part: Some(part),
-        shape: None,
-    })
-}
-
-/// Ends the leaf or cut that is open.
-fn close(alloc: Global, progress: Progress<'_>, part: Open) -> Result<Going<'_>, NoMemory>
-    requires unspent { progress.walk.spent ≡ false }
-    ensures { IfOk result (λ g. (p : Problem) (events : List CertEvent) → IsInside p events progress.entry part → IsGoing p (events ++ CertEvent.End ∷ []) g) }
-{
-    let mut progress = progress;
-    end(alloc, &mut progress, part)?;
-    Ok(Going {
-        progress,
-        part: None,
-        shape: None,
-    })
-}
-
-/// Takes an event where a leaf or a cut is open.
-fn in_log<'r>(
+/// Takes an event where a leaf or a cut is open, which stays open where there is an answer.
+fn in_log(
     alloc: Global,
-    progress: Progress<'r>,
+    going: &mut Going<'_>,
     part: Open,
     event: Event<'_>,
-) -> Result<Going<'r>, NoMemory>
-    requires unspent { progress.walk.spent ≡ false }
-    ensures { IfOk result (λ g. (p : Problem) (events : List CertEvent) → IsInside p events progress.entry part → BeginsTree (events ++ event_of event.entry ∷ [])
-        → IsShort events → IsGoing p (events ++ event_of event.entry ∷ []) g) }
+) -> Result<(), NoMemory>
+    requires unspent { going.old.progress.walk.spent ≡ false }
+    requires closed { going.old.part ≡ None }
+    requires covers { going.old.shape ≡ None }
+    ensures unspent { OnOk result (going.new.progress.walk.spent ≡ false) }
+    ensures going { OnOk result ((p : Problem) (events : List CertEvent) → IsInside p events going.old.progress part → BeginsTree (events ++ event_of event.entry ∷ [])
+        → IsShort events → IsGoing p (events ++ event_of event.entry ∷ []) going.new) }
 {
+    let mut part = part;
     match event {
-        Event::Fork | Event::Begin(_) => Ok(Going {
-            progress,
-            part: Some(part),
-            shape: None,
-        }),
+        Event::Fork | Event::Begin(_) => {
+            going.part = Some(part);
+            Ok(())
+        }
         Event::Line(line) => {
-            let next = add_line(progress, part, line)?;
-            Ok(next)
+            part.check.step(line)?;
+            going.part = Some(part);
+            Ok(())
         }
         Event::End => {
-            let next = close(alloc, progress, part)?;
-            Ok(next)
+            end(alloc, &mut going.progress, part)?;
+            Ok(())
         }
     }
 }
@@ -142,22 +105,24 @@ fn is_over(going: &Going<'_>) -> bool
 }
 
 /// Takes an event.
-pub fn advance<'r>(alloc: Global, going: Going<'r>, event: Event<'_>) -> Result<Going<'r>, NoMemory>
-    ensures { IfOk result (λ g. (p : Problem) (events : List CertEvent) → IsGoing p events going.entry → BeginsTree (events ++ event_of event.entry ∷ [])
-        → IsShort events → IsGoing p (events ++ event_of event.entry ∷ []) g) }
+pub fn advance(alloc: Global, going: &mut Going<'_>, event: Event<'_>) -> Result<(), NoMemory>
+    requires unspent { going.old.progress.walk.spent ≡ false }
+    ensures unspent { OnOk result (going.new.progress.walk.spent ≡ false) }
+    ensures over { OnOk result ((is_some going.old.shape || going.old.progress.whole) ≡ true → going.new ≡ going.old) }
+    ensures going { OnOk result ((p : Problem) (events : List CertEvent) → IsGoing p events going.old → BeginsTree (events ++ event_of event.entry ∷ [])
+        → IsShort events → IsGoing p (events ++ event_of event.entry ∷ []) going.new) }
 {
-    if is_over(&going) {
-        return Ok(going);
+    if is_over(going) {
+        return Ok(());
     }
-    let (progress, part, _shape) = going.into_parts();
-    match part {
+    match going.part.take() {
         None => {
-            let next = at_node(alloc, progress, event)?;
-            Ok(next)
+            at_node(alloc, going, event)?;
+            Ok(())
         }
         Some(part) => {
-            let next = in_log(alloc, progress, part, event)?;
-            Ok(next)
+            in_log(alloc, going, part, event)?;
+            Ok(())
         }
     }
 }
@@ -166,7 +131,7 @@ pub fn advance<'r>(alloc: Global, going: Going<'r>, event: Event<'_>) -> Result<
 pub fn answer_of(going: Going<'_>) -> Checked
     ensures { (p : Problem) (tree : Tree) → IsGoing p (events_of (preorder tree)) going.entry → IsChecked p tree result }
 {
-    let (progress, _part, shape) = going.into_parts();
+    let (progress, shape) = going.into_parts();
     match shape {
         Some(path) => Checked::Shape(path),
         None => progress.answer(),

@@ -10,8 +10,7 @@ ghost use Rattle.jd_check.specs.Events.{BeginsTree, IsShort};
 ghost use Rattle.jd_check.specs.Runs.{IsChecked, IsChecking};
 
 use crate::checked::Checked;
-use crate::going::Event;
-use crate::run::CheckRun;
+use crate::going::{CheckRun, Event};
 use hp_io::NoMemory;
 use jd_cert::Cert;
 use jd_logic::Line;

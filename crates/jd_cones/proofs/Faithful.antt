@@ -8,15 +8,15 @@ use Rattle.jd_model.specs.Problems.{Problem, bits, fields, numbers, in_range, al
 use Rattle.jd_model.proofs.FreeBits.{length-bits_in}
 use Rattle.jd_model.proofs.FreeStarts.{numbers-in-fields}
 use Rattle.jd_books.specs.Paths.{answers_of_start, begins, IsWalked, OverAfter}
-use Rattle.jd_books.specs.Leaves.{Leaf, net_of, guards_hold, IsLeaf, IsFaithful}
+use Rattle.jd_books.specs.Leaves.{Leaf, net_of, guards_hold, IsLeaf, Claim, IsFaithfulTo}
 use Rattle.jd_cones.specs.Cones.{IsConeOf, guard_values}
 
 -- guards hold where all their values are true
 hold-by-values : (l : Leaf) (bs : List Bool) → guards_hold l bs ≡ list_all (λ b. b) (guard_values l bs)
 hold-by-values l bs = sym (list_all-map (λ (b : Bool). b) (eval (net_of l) bs) l.guards)
 
-pub faithful-cone : (p : Problem) (whole cone : Leaf) → IsFaithful p whole → IsConeOf whole cone → IsLeaf cone → IsFaithful p cone
-faithful-cone p whole cone f k leaf = record {
+pub faithful-cone : (p : Problem) (claim : Claim) (whole cone : Leaf) → IsFaithfulTo p claim whole → IsConeOf whole cone → IsLeaf cone → IsFaithfulTo p claim cone
+faithful-cone p claim whole cone f k leaf = record {
   inputs = k.inputs ∙ f.inputs;
   leaf = leaf;
   walked = subst (IsWalked p) (sym k.path) f.walked;

@@ -1,5 +1,5 @@
 -- Marks, one more at a time.
-use Rattle.std.proofs.Common.{◌≡◌, ◌≢◌, ◌⊎◌, inl, inr, ℕ, zero, suc, ◌+◌, ◌-◌, ◌<◌, ◌≤◌, Bool, true, false, ◌&&◌, List, [], ◌∷◌, length, get_or, set, cond, refl, sym, ap, ◌∙◌, subst, arith}
+use Rattle.std.proofs.Common.{◌≡◌, ◌⊎◌, inl, inr, ℕ, zero, suc, ◌+◌, ◌-◌, ◌<◌, ◌≤◌, Bool, true, false, ◌&&◌, List, [], ◌∷◌, length, get_or, set, cond, refl, sym, ap, ◌∙◌, subst, arith}
 use Rattle.std.proofs.lemmas.Bool.{cases_eq, false≢true}
 use Rattle.std.proofs.lemmas.List.{length-set, get_or-set_same, get_or-set_other, get_or_default}
 use Rattle.jd_circuit.specs.declared.literals.Lit.{Lit}
@@ -8,7 +8,8 @@ use Rattle.jd_circuit.specs.declared.literals.Gate.{Gate}
 use Rattle.jd_circuit.specs.declared.literals.Gate.TheVariants.{And, Xor}
 use Rattle.jd_circuit.specs.Net.{at, IsLit, IsGateOf, IsArgumentGate, IsWired}
 use Rattle.jd_circuit.proofs.Values.{argument_gate}
-use Rattle.jd_cones.specs.Marks.{gate_at, is_marked, are_marked, with_mark, with_arguments, passed, IsGrown, IsClosed}
+use Rattle.jd_circuit.specs.Meaning.{variable}
+use Rattle.jd_cones.specs.Marks.{gate_at, is_marked, are_marked, with_mark, with_arguments, passed, AreNaming, HasArgument, IsForGate, IsGrown, IsClosed}
 
 -- marks that are as many and no fewer, and the same above a variable
 pub record IsMore (n : ℕ) (old new : List Bool) : Type 0 where
@@ -81,6 +82,36 @@ mark-gate : (n : ℕ) (marks : List Bool) (g : Gate) → IsGateOf n g → n ≤ 
 mark-gate n marks (And a b) i room = (let h = mark-two n marks a b i.0 i.1 room in (h.more, h.marked))
 mark-gate n marks (Xor a b) i room = (let h = mark-two n marks a b i.0 i.1 room in (h.more, h.marked))
 
+-- ---- what a mark is for
+
+set-only : (marks : List Bool) (w v : ℕ) → 1 ≤ w → 1 ≤ v → at (set marks (w - 1) true) v ≡ true → (at marks v ≡ true) ⊎ (w ≡ v)
+set-only marks w v low from h = by (cases_eq (v - 1) (w - 1))
+  where
+    by : (v - 1 ≡ w - 1) ⊎ (v - 1 ≡ w - 1 → ⊥) → (at marks v ≡ true) ⊎ (w ≡ v)
+    by (inl e) = inr (omega (arith, e, low, from))
+    by (inr n) = inl (sym (get_or-set_other marks (w - 1) (v - 1) true false n) ∙ h)
+
+pub mark-only : (n : ℕ) (marks : List Bool) (l : Lit) (v : ℕ) → IsLit n l → 1 ≤ v → at (with_mark marks l) v ≡ true → (at marks v ≡ true) ⊎ (variable l ≡ v)
+mark-only n marks (Const b) v i from h = inl h
+mark-only n marks (Var w) v i from h = set-only marks w v i.0 from h
+mark-only n marks (Not w) v i from h = set-only marks w v i.0 from h
+
+two-only : (n : ℕ) (marks : List Bool) (a b : Lit) (v : ℕ) → IsLit n a → IsLit n b → 1 ≤ v → at (with_mark (with_mark marks a) b) v ≡ true
+    → (at marks v ≡ true) ⊎ ((variable a ≡ v) ⊎ (variable b ≡ v))
+two-only n marks a b v i j from h = by (mark-only n (with_mark marks a) b v j from h)
+  where
+    first : (at marks v ≡ true) ⊎ (variable a ≡ v) → (at marks v ≡ true) ⊎ ((variable a ≡ v) ⊎ (variable b ≡ v))
+    first (inl m) = inl m
+    first (inr e) = inr (inl e)
+
+    by : (at (with_mark marks a) v ≡ true) ⊎ (variable b ≡ v) → (at marks v ≡ true) ⊎ ((variable a ≡ v) ⊎ (variable b ≡ v))
+    by (inl m) = first (mark-only n marks a v i from m)
+    by (inr e) = inr (inr e)
+
+gate-only : (n : ℕ) (marks : List Bool) (g : Gate) (v : ℕ) → IsGateOf n g → 1 ≤ v → at (with_arguments marks g) v ≡ true → (at marks v ≡ true) ⊎ HasArgument g v
+gate-only n marks (And a b) v i from h = two-only n marks a b v i.0 i.1 from h
+gate-only n marks (Xor a b) v i from h = two-only n marks a b v i.0 i.1 from h
+
 -- a gate's arguments stand before it
 pub arguments-at : (n : ℕ) (gs : List Gate) (i : ℕ) → i < length gs → IsWired n gs → IsArgumentGate (n + i) (gate_at gs i)
 arguments-at n [] i inside h = absurd (omega (arith, inside))
@@ -99,6 +130,7 @@ pub record IsPassed (inputs : ℕ) (gates : List Gate) (to : ℕ) (old new : Lis
   pub all : length new ≡ length old
   pub grown : IsGrown old new
   pub closed : IsClosed inputs gates to new
+  pub only : (v : ℕ) → 1 ≤ v → at new v ≡ true → (at old v ≡ true) ⊎ IsForGate inputs gates new v
 
 passed-by : (inputs : ℕ) (gates : List Gate) (place : ℕ) (marks : List Bool) (b : Bool) → IsWired inputs gates → length marks ≡ inputs + length gates → place < length gates → IsClosed inputs gates (place + 1) marks
     → get_or marks (inputs + place) false ≡ b → IsPassed inputs gates place marks (cond b (with_arguments marks (gate_at gates place)) marks)
@@ -110,8 +142,15 @@ passed-by inputs gates place marks true wired many inside closed e =
       all = h.0.all;
       grown = h.0.grown;
       closed = λ k from within m. passed-at new h.0 h.1 k from within m (cases_eq k place);
+      only = λ v from m. own-only v (h.0.grown (inputs + place + 1)) (gate-only (inputs + place) marks g v (literals-at inputs gates place inside wired) from m);
     }
   where
+    own-only : (v : ℕ) → (at marks (inputs + place + 1) ≡ true → at (with_arguments marks (gate_at gates place)) (inputs + place + 1) ≡ true) → (at marks v ≡ true) ⊎ HasArgument (gate_at gates place) v
+        → (at marks v ≡ true) ⊎ IsForGate inputs gates (with_arguments marks (gate_at gates place)) v
+    own-only v grown (inl m) = inl m
+    own-only v grown (inr a) =
+        (let i : inputs + place + 1 - 1 ≡ inputs + place = omega arith in inr (place, inside, grown (ap (λ j. get_or marks j false) i ∙ e), a))
+
     passed-at : (new : List Bool) → IsMore (inputs + place) marks new → are_marked new (gate_at gates place) ≡ true → (k : ℕ) → place ≤ k → k < length gates → at new (inputs + k + 1) ≡ true → (k ≡ place) ⊎ (k ≡ place → ⊥)
         → are_marked new (gate_at gates k) ≡ true
     passed-at new more own k from within m (inl e) = ap (λ j. are_marked new (gate_at gates j)) e ∙ own
@@ -121,6 +160,7 @@ passed-by inputs gates place marks false wired many inside closed e = record {
   all = refl;
   grown = λ v h. h;
   closed = λ k from within m. left-at k from within m (cases_eq k place);
+  only = λ v from m. inl m;
 }
   where
     left-at : (k : ℕ) → place ≤ k → k < length gates → at marks (inputs + k + 1) ≡ true → (k ≡ place) ⊎ (k ≡ place → ⊥) → are_marked marks (gate_at gates k) ≡ true
@@ -136,13 +176,24 @@ gate-passed inputs gates place from to start old new wired many inside is_from i
     let p = passed old (inputs + place) (gate_at gates place) in
     subst (λ marks. IsPassed inputs gates to start marks) (sym e)
     (subst (λ k. IsPassed inputs gates k start p) (sym is_to)
-    (record { all = t.all ∙ h.all; grown = λ v m. t.grown v (h.grown v m); closed = t.closed }))
+    (record { all = t.all ∙ h.all; grown = λ v m. t.grown v (h.grown v m); closed = t.closed; only = λ v from m. both-only v t.grown (t.only v from m) (λ x. h.only v from x) }))
+  where
+    earlier-only : (v : ℕ) → IsGrown old (passed old (inputs + place) (gate_at gates place)) → (at start v ≡ true) ⊎ IsForGate inputs gates old v
+        → (at start v ≡ true) ⊎ IsForGate inputs gates (passed old (inputs + place) (gate_at gates place)) v
+    earlier-only v grown (inl m) = inl m
+    earlier-only v grown (inr f) = inr (f.0, f.1, grown (inputs + f.0 + 1) f.2, f.3)
+
+    both-only : (v : ℕ) → IsGrown old (passed old (inputs + place) (gate_at gates place)) → (at old v ≡ true) ⊎ IsForGate inputs gates (passed old (inputs + place) (gate_at gates place)) v
+        → (at old v ≡ true → (at start v ≡ true) ⊎ IsForGate inputs gates old v) → (at start v ≡ true) ⊎ IsForGate inputs gates (passed old (inputs + place) (gate_at gates place)) v
+    both-only v grown (inl m) before = earlier-only v grown (before m)
+    both-only v grown (inr f) before = inr f
 
 -- literals marked so far
 pub record IsListed (literals : List Lit) (count : ℕ) (old new : List Bool) : Type 0 where
   pub all : length new ≡ length old
   pub grown : IsGrown old new
   pub marked : (k : ℕ) (d : Lit) → k < count → k < length literals → is_marked new (get_or literals k d) ≡ true
+  pub only : (v : ℕ) → 1 ≤ v → at new v ≡ true → (at old v ≡ true) ⊎ AreNaming literals v
 
 pub literal-listed : (literals : List Lit) (k : ℕ) (d : Lit) (start old new : List Bool) → k < length literals → IsLit (length start) (get_or literals k d)
     → IsListed literals k start old → new ≡ with_mark old (get_or literals k d) → IsListed literals (k + 1) start new
@@ -154,8 +205,13 @@ literal-listed literals k d start old new inside lit h e =
       all = m.all ∙ h.all;
       grown = λ v t. m.grown v (h.grown v t);
       marked = λ j b below within. by j b below within m.grown room (cases_eq j k);
+      only = λ v from t. named v (mark-only (length start) old l v lit from t) (λ x. h.only v from x);
     })
   where
+    named : (v : ℕ) → (at old v ≡ true) ⊎ (variable (get_or literals k d) ≡ v) → (at old v ≡ true → (at start v ≡ true) ⊎ AreNaming literals v) → (at start v ≡ true) ⊎ AreNaming literals v
+    named v (inl t) before = before t
+    named v (inr is) before = inr (k, inside, ap variable (get_or_default literals k (Const true) d inside) ∙ is)
+
     by : (j : ℕ) (b : Lit) → j < k + 1 → j < length literals → IsGrown old (with_mark old (get_or literals k d)) → length start ≤ length old → (j ≡ k) ⊎ (j ≡ k → ⊥)
         → is_marked (with_mark old (get_or literals k d)) (get_or literals j b) ≡ true
     by j b below within grown room (inl same) =

@@ -7,10 +7,10 @@ use Rattle.jd_circuit.specs.declared.literals.Lit.{Lit}
 use Rattle.jd_circuit.specs.declared.literals.Lit.TheVariants.{Const, Var, Not}
 use Rattle.jd_circuit.specs.declared.literals.Gate.{Gate}
 use Rattle.jd_circuit.specs.declared.literals.Gate.TheVariants.{And, Xor}
-use Rattle.jd_circuit.specs.Meaning.{lit_value, gate_value, xor}
+use Rattle.jd_circuit.specs.Meaning.{lit_value, gate_value, variable, xor}
 use Rattle.jd_circuit.specs.Net.{at, values_of, IsLit, IsArgument, IsArgumentGate, IsWired}
 use Rattle.jd_circuit.proofs.Values.{IsWired-push, value_at, values-Alike, values_of-append, length-values_of}
-use Rattle.jd_cones.specs.Marks.{gate_at, is_marked, are_marked, IsClosed}
+use Rattle.jd_cones.specs.Marks.{gate_at, is_marked, are_marked, HasArgument, IsClosed}
 use Rattle.jd_cones.specs.Renaming.{number_in, renamed, renamed_gate, number_after, gates_after, AreOwn, IsSame, IsRenaming}
 use Rattle.jd_cones.proofs.Marks.{both-parts, arguments-at}
 
@@ -100,6 +100,37 @@ last-gate : (gs : List Gate) (g : Gate) → slice_get (gs ++ g ∷ []) (length g
 last-gate [] g = refl
 last-gate (x ∷ gs) g = last-gate gs g
 
+-- ---- what is kept for what
+
+pub variable-renamed : (numbers : List ℕ) (l : Lit) (v : ℕ) → 1 ≤ v → variable l ≡ v → variable (renamed numbers l) ≡ number_in numbers v
+variable-renamed numbers (Const b) v low e = absurd (omega (arith, low, e))
+variable-renamed numbers (Var w) v low e = ap (number_in numbers) e
+variable-renamed numbers (Not w) v low e = ap (number_in numbers) e
+
+either-renamed : (numbers : List ℕ) (a b : Lit) (v : ℕ) → 1 ≤ v → (variable a ≡ v) ⊎ (variable b ≡ v)
+    → (variable (renamed numbers a) ≡ number_in numbers v) ⊎ (variable (renamed numbers b) ≡ number_in numbers v)
+either-renamed numbers a b v low (inl e) = inl (variable-renamed numbers a v low e)
+either-renamed numbers a b v low (inr e) = inr (variable-renamed numbers b v low e)
+
+has-renamed : (numbers : List ℕ) (g : Gate) (v : ℕ) → 1 ≤ v → HasArgument g v → HasArgument (renamed_gate numbers g) (number_in numbers v)
+has-renamed numbers (And a b) v low h = either-renamed numbers a b v low h
+has-renamed numbers (Xor a b) v low h = either-renamed numbers a b v low h
+
+either-high : (n : ℕ) (a b : Lit) (v : ℕ) → IsArgument n a → IsArgument n b → (variable a ≡ v) ⊎ (variable b ≡ v) → v ≤ n
+either-high n a b v i j (inl e) = omega (arith, i.1, e)
+either-high n a b v i j (inr e) = omega (arith, j.1, e)
+
+pub argument-high : (n : ℕ) (g : Gate) (v : ℕ) → IsArgumentGate n g → HasArgument g v → v ≤ n
+argument-high n (And a b) v i h = either-high n a b v i.0 i.1 h
+argument-high n (Xor a b) v i h = either-high n a b v i.0 i.1 h
+
+-- the gates before a last one, and the last one
+gate-before : (kept : List Gate) (g : Gate) (k : ℕ) → k < length kept → gate_at (kept ++ g ∷ []) k ≡ gate_at kept k
+gate-before kept g k inside = get_or_append_left kept (g ∷ []) (And (Const false) (Const false)) k inside
+
+gate-last : (kept : List Gate) (g : Gate) → gate_at (kept ++ g ∷ []) (length kept) ≡ g
+gate-last kept g = get_or_push kept g (And (Const false) (Const false)) (length kept) refl
+
 -- the inputs, one more at a time
 pub own-more : (before : ℕ) (numbers new : List ℕ) → AreOwn before numbers → new ≡ numbers ++ (before + 1) ∷ [] → AreOwn (before + 1) new
 own-more before numbers new h e = subst (λ ns. AreOwn (before + 1) ns) (sym e) (record {
@@ -124,6 +155,8 @@ inputs-renamed inputs gates marks numbers h = record {
         high = omega (arith, high);
         means = λ bits many. sym (values-Alike bits gates v low (omega (arith, high, many)));
       });
+  kept_for = λ k inside. absurd (omega (arith, inside));
+  kept_gate = λ j inside m. absurd (omega (arith, inside));
 }
 
 -- one more gate, which is needed or not
@@ -134,8 +167,16 @@ renamed-by inputs gates marks place numbers kept false wired closed inside h e =
   fewer = omega (arith, h.fewer);
   wired = h.wired;
   same = λ v low high m. by v low high m (cases_eq v (inputs + place + 1));
+  kept_for = λ k inside. (let f = h.kept_for k inside in (f.0, omega (arith, f.1), f.2, number-before numbers 0 (inputs + f.0 + 1) (omega arith) (omega (arith, f.1, h.all)) ∙ f.3));
+  kept_gate = λ j below m. gate-by j below m (cases_eq j place);
 }
   where
+    gate-by : (j : ℕ) → j < place + 1 → at marks (inputs + j + 1) ≡ true → (j ≡ place) ⊎ (j ≡ place → ⊥)
+        → (k : ℕ) × (k < length kept) × ((v : ℕ) → 1 ≤ v → v ≤ inputs + j → HasArgument (gate_at gates j) v → HasArgument (gate_at kept k) (number_in (numbers ++ 0 ∷ []) v))
+    gate-by j below m (inl is) = absurd (false≢true (sym e ∙ ap (λ i. at marks (inputs + i + 1)) (sym is) ∙ m))
+    gate-by j below m (inr n) = (let g = h.kept_gate j (omega (arith, below, n)) m in
+        (g.0, g.1, λ v low high a. subst (HasArgument (gate_at kept g.0)) (sym (number-before numbers 0 v low (omega (arith, high, below, n, h.all)))) (g.2 v low high a)))
+
     by : (v : ℕ) → 1 ≤ v → v ≤ inputs + (place + 1) → at marks v ≡ true → (v ≡ inputs + place + 1) ⊎ (v ≡ inputs + place + 1 → ⊥) → IsSame inputs gates kept v (number_in (numbers ++ 0 ∷ []) v)
     by v low high m (inl is) = absurd (false≢true (sym e ∙ ap (at marks) (sym is) ∙ m))
     by v low high m (inr n) = subst (λ k. IsSame inputs gates kept v k) (sym (number-before numbers 0 v low (omega (arith, high, n, h.all)))) (h.same v low (omega (arith, high, n)) m)
@@ -157,8 +198,39 @@ renamed-by inputs gates marks place numbers kept true wired closed inside h e =
           ∙ sym (value_at bits gates place g (subst (λ n. IsWired n gates) (sym many) wired) (slice_get-get_or gates place (And (Const false) (Const false)) inside))
           ∙ (let i : length bits + place + 1 ≡ inputs + place + 1 = omega (arith, many) in ap (at (values_of bits gates)) i))
           (cases_eq v (inputs + place + 1));
+      kept_for = λ k inside_kept. for-by k inside_kept (cases_eq k (length kept));
+      kept_gate = λ j below m. gate-by j below m (cases_eq j place);
     }
   where
+    for-by : (k : ℕ) → k < length (kept ++ renamed_gate numbers (gate_at gates place) ∷ []) → (k ≡ length kept) ⊎ (k ≡ length kept → ⊥)
+        → (j : ℕ) × (j < place + 1) × (at marks (inputs + j + 1) ≡ true) × (number_in (numbers ++ (inputs + length kept + 1) ∷ []) (inputs + j + 1) ≡ inputs + k + 1)
+    for-by k within (inl is) =
+        (place, omega arith, e, number-last numbers (inputs + length kept + 1) (inputs + place + 1) (omega (arith, h.all)) ∙ (let same : inputs + length kept + 1 ≡ inputs + k + 1 = omega (arith, is) in same))
+    for-by k within (inr n) =
+        (let f = h.kept_for k (omega (arith, within, n, length-append kept (renamed_gate numbers (gate_at gates place) ∷ []))) in
+        (f.0, omega (arith, f.1), f.2, number-before numbers (inputs + length kept + 1) (inputs + f.0 + 1) (omega arith) (omega (arith, f.1, h.all)) ∙ f.3))
+
+    gate-by : (j : ℕ) → j < place + 1 → at marks (inputs + j + 1) ≡ true → (j ≡ place) ⊎ (j ≡ place → ⊥)
+        → (k : ℕ) × (k < length (kept ++ renamed_gate numbers (gate_at gates place) ∷ []))
+        × ((v : ℕ) → 1 ≤ v → v ≤ inputs + j → HasArgument (gate_at gates j) v
+        → HasArgument (gate_at (kept ++ renamed_gate numbers (gate_at gates place) ∷ []) k) (number_in (numbers ++ (inputs + length kept + 1) ∷ []) v))
+    gate-by j below m (inl is) = (
+      length kept,
+      omega (arith, length-append kept (renamed_gate numbers (gate_at gates place) ∷ [])),
+      λ v low high a.
+          subst (λ g. HasArgument g (number_in (numbers ++ (inputs + length kept + 1) ∷ []) v)) (sym (gate-last kept (renamed_gate numbers (gate_at gates place))))
+          (subst (HasArgument (renamed_gate numbers (gate_at gates place))) (sym (number-before numbers (inputs + length kept + 1) v low (omega (arith, high, is, h.all))))
+          (has-renamed numbers (gate_at gates place) v low (subst (λ i. HasArgument (gate_at gates i) v) is a))),
+    )
+    gate-by j below m (inr n) =
+        (let g = h.kept_gate j (omega (arith, below, n)) m in (
+          g.0,
+          omega (arith, g.1, length-append kept (renamed_gate numbers (gate_at gates place) ∷ [])),
+          λ v low high a.
+              subst (λ x. HasArgument x (number_in (numbers ++ (inputs + length kept + 1) ∷ []) v)) (sym (gate-before kept (renamed_gate numbers (gate_at gates place)) g.0 g.1))
+              (subst (HasArgument (gate_at kept g.0)) (sym (number-before numbers (inputs + length kept + 1) v low (omega (arith, high, below, n, h.all)))) (g.2 v low high a)),
+        ))
+
     by : (v : ℕ) → 1 ≤ v → v ≤ inputs + (place + 1) → at marks v ≡ true
         → ((bits : List Bool) → length bits ≡ inputs → at (values_of bits (kept ++ renamed_gate numbers (gate_at gates place) ∷ [])) (inputs + length kept + 1) ≡ at (values_of bits gates) (inputs + place + 1))
         → (v ≡ inputs + place + 1) ⊎ (v ≡ inputs + place + 1 → ⊥)

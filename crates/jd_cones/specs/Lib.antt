@@ -1,4 +1,4 @@
-pub mod Cones
 pub mod Marks
+pub mod Cones
 pub mod Renaming
 pub mod Laws

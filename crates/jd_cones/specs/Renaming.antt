@@ -1,10 +1,11 @@
 -- New numbers of variables, one for each in their order.
-use Rattle.std.specs.Prelude.{◌≡◌, ℕ, ◌+◌, ◌-◌, ◌≤◌, Bool, true, List, [], ◌∷◌, ◌++◌, if◌then◌else◌, length, slice_index_or}
+use Rattle.std.specs.Prelude.{◌≡◌, ℕ, ◌+◌, ◌-◌, ◌<◌, ◌≤◌, Bool, true, List, [], ◌∷◌, ◌++◌, if◌then◌else◌, length, slice_index_or}
 use Rattle.jd_circuit.specs.declared.literals.Lit.{Lit}
 use Rattle.jd_circuit.specs.declared.literals.Lit.TheVariants.{Const, Var, Not}
 use Rattle.jd_circuit.specs.declared.literals.Gate.{Gate}
 use Rattle.jd_circuit.specs.declared.literals.Gate.TheVariants.{And, Xor}
 use Rattle.jd_circuit.specs.Net.{at, values_of, IsWired}
+use Rattle.jd_cones.specs.Marks.{HasArgument, gate_at}
 
 -- a variable's new number
 abbrev pub number_in : List ℕ → ℕ → ℕ
@@ -37,9 +38,13 @@ pub record IsSame (inputs : ℕ) (gates kept : List Gate) (v number : ℕ) : Typ
   pub high : number ≤ inputs + length kept
   pub means : (bits : List Bool) → length bits ≡ inputs → at (values_of bits kept) number ≡ at (values_of bits gates) v
 
--- new numbers of the inputs and of so many gates
+-- new numbers of the inputs and of so many gates, of which the marked ones are kept: each kept gate is one of them, with
+-- its arguments
 pub record IsRenaming (inputs : ℕ) (gates : List Gate) (marks : List Bool) (count : ℕ) (numbers : List ℕ) (kept : List Gate) : Type 0 where
   pub all : length numbers ≡ inputs + count
   pub fewer : length kept ≤ count
   pub wired : IsWired inputs kept
   pub same : (v : ℕ) → 1 ≤ v → v ≤ inputs + count → at marks v ≡ true → IsSame inputs gates kept v (number_in numbers v)
+  pub kept_for : (k : ℕ) → k < length kept → (j : ℕ) × (j < count) × (at marks (inputs + j + 1) ≡ true) × (number_in numbers (inputs + j + 1) ≡ inputs + k + 1)
+  pub kept_gate : (j : ℕ) → j < count → at marks (inputs + j + 1) ≡ true
+      → (k : ℕ) × (k < length kept) × ((v : ℕ) → 1 ≤ v → v ≤ inputs + j → HasArgument (gate_at gates j) v → HasArgument (gate_at kept k) (number_in numbers v))

@@ -1,9 +1,9 @@
 //! Marks of the variables that are needed: those of the guards and of the difference, and those of
 //! the arguments of needed gates. A gate's arguments stand before it, so one pass from the last gate
 //! back to the first finds all.
-ghost use Rattle.std.specs.Prelude.{◌≡◌, ◌+◌, ◌<◌, true, length, All, IfOk};
-ghost use Rattle.jd_circuit.specs.Net.{IsLit, IsGateOf, IsWired};
-ghost use Rattle.jd_cones.specs.Marks.{with_mark, with_arguments, passed, is_marked, IsGrown, IsClosed, AreMarks};
+ghost use Rattle.std.specs.Prelude.{◌≡◌, ◌⊎◌, ℕ, ◌+◌, ◌<◌, ◌≤◌, false, true, length, All, IfOk};
+ghost use Rattle.jd_circuit.specs.Net.{at, IsLit, IsGateOf, IsWired};
+ghost use Rattle.jd_cones.specs.Marks.{with_mark, with_arguments, passed, is_marked, IsGrown, IsClosed, IsForGate, AreMarks, AreNaming};
 ghost use Rattle.jd_leaves.specs.Views.{leaf_of};
 
 use hp_io::NoMemory;
@@ -53,6 +53,7 @@ fn mark_gates(marks: &mut [bool], inputs: usize, gates: &[Gate])
     ensures all { length marks.new ≡ length marks.old }
     ensures grown { IsGrown marks.old marks.new }
     ensures closed { IsClosed inputs gates.now 0 marks.new }
+    ensures only { (v : ℕ) → 1 ≤ v → at marks.new v ≡ true → (at marks.old v ≡ true) ⊎ IsForGate inputs gates.now marks.new v }
 {
     for step in 0..gates.len() {
         let place = gates.len() - 1 - step;
@@ -66,6 +67,7 @@ fn mark_literals(marks: &mut [bool], literals: &[Lit])
     ensures all { length marks.new ≡ length marks.old }
     ensures grown { IsGrown marks.old marks.new }
     ensures marked { All (λ l. is_marked marks.new l ≡ true) literals.now }
+    ensures only { (v : ℕ) → 1 ≤ v → at marks.new v ≡ true → (at marks.old v ≡ true) ⊎ AreNaming literals.now v }
 {
     for l in literals {
         mark(marks, *l);
@@ -74,7 +76,8 @@ fn mark_literals(marks: &mut [bool], literals: &[Lit])
 
 /// A list of marks, none of which is set.
 fn unmarked(alloc: Global, count: usize) -> Result<Vec<bool>, NoMemory>
-    ensures { IfOk result (λ marks. length marks.items ≡ count) }
+    ensures count { IfOk result (λ marks. length marks.items ≡ count) }
+    ensures none { IfOk result (λ marks. (v : ℕ) → at marks.items v ≡ false) }
 {
     let marks = vec![in alloc; false; count]?;
     Ok(marks)
@@ -82,7 +85,8 @@ fn unmarked(alloc: Global, count: usize) -> Result<Vec<bool>, NoMemory>
 
 /// Marks the variables that the guards and the difference of a leaf stand on.
 fn mark_leaf(marks: &mut [bool], leaf: &Leaf)
-    requires { length marks.old ≡ leaf.now.inputs + length leaf.now.gates }
+    requires count { length marks.old ≡ leaf.now.inputs + length leaf.now.gates }
+    requires none { (v : ℕ) → at marks.old v ≡ false }
     ensures { AreMarks (leaf_of leaf.now) marks.new }
 {
     mark_literals(marks, leaf.guards.as_slice());

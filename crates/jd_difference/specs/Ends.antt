@@ -7,9 +7,10 @@ use Rattle.jd_circuit.specs.Net.{Net, variables}
 use Rattle.jd_content.specs.declared.content.SymContent.{SymContent}
 use Rattle.jd_content.specs.Meaning.{Fits}
 
--- words of one size, of n variables
+-- words of one size from 1 to 64, of n variables
 pub record HasShape (n : ℕ) (content : SymContent) : Type 0 where
   pub size : ℕ
+  pub size_least : 1 ≤ size
   pub size_most : size ≤ 64
   pub fits : Fits n size content
 

@@ -8,3 +8,4 @@ mod memory;
 mod numbers;
 
 pub use ends::difference;
+pub use numbers::number_at;

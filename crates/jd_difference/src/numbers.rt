@@ -31,7 +31,7 @@ fn flag_word(content: &SymContent, place: u8) -> Lits
 }
 
 /// A number of a content in 64 literals: a word, the index register or a flag.
-fn number_at(content: &SymContent, place: usize) -> Lits
+pub fn number_at(content: &SymContent, place: usize) -> Lits
     requires place { place < CONTENT_NUMBERS }
     requires shape { (n : ℕ) × HasShape n content.now }
     ensures length { length result ≡ 64 }

@@ -13,8 +13,8 @@ use Rattle.jd_books.specs.Clauses.{IsUnsatisfiable}
 use Rattle.jd_books.specs.Paths.{answers_of_start, begins}
 use Rattle.jd_trees.specs.Trees.{Tree}
 use Rattle.jd_books.specs.Trees.{places}
-use Rattle.jd_books.specs.Leaves.{Leaf as LeafOf, clauses_of, IsFaithful}
-use Rattle.jd_books.specs.Checks.{IsProved}
+use Rattle.jd_books.specs.Leaves.{Leaf as LeafOf, Claim, clauses_of, IsFaithfulTo}
+use Rattle.jd_books.specs.Checks.{IsProvedTo}
 use Rattle.jd_books.specs.Outcomes.{HaveOwnAnswers}
 use Rattle.jd_books.proofs.Covering.{covers-from}
 use Rattle.jd_books.proofs.Longer.{over-own}
@@ -75,8 +75,8 @@ in-whole (l ∷ book) zero d inside is =
 in-whole (l ∷ book) (suc k) d inside is =
     in-right (get_or book k d).path (path_if_whole l.kind l.path) (whole_paths book) (in-whole book k d (omega (arith, inside)) is)
 
-answers-in : (p : Problem) (tree : Tree) (book : List LeafOf) (s : Data) → IsProved p tree book → allows p s ≡ true → IsIn (answers_of_start p s) (whole_paths book)
-answers-in p tree book s proved allowed =
+answers-in : (p : Problem) (claim : Claim) (tree : Tree) (book : List LeafOf) (s : Data) → IsProvedTo p claim tree book → allows p s ≡ true → IsIn (answers_of_start p s) (whole_paths book)
+answers-in p claim tree book s proved allowed =
     let G = IsIn (answers_of_start p s) (whole_paths book) in
     let same : map (λ l. l.path) book ≡ map (λ place. place.path) (places tree) = proved.covered.leaves.paths in
     let refuted : All (λ l. IsUnsatisfiable (clauses_of l)) book =
@@ -92,41 +92,41 @@ answers-in p tree book s proved allowed =
         l : LeafOf
         l = get_or book k d
 
-        f : IsFaithful p l
+        f : IsFaithfulTo p claim l
         f = proved.covered.leaves.faithful k d inside
 
         by_kind : (kind : Kind) → l.kind ≡ kind → IsIn (answers_of_start p s) (whole_paths book)
         by_kind Whole is =
-            let over = (f.whole is s (ranged p s allowed) (guards-true p l s f allowed b)).over in
+            let over = (f.whole is s (ranged p s allowed) (guards-true p claim l s f allowed b)).over in
             subst (λ x. IsIn x (whole_paths book)) (sym (over-own p l.path s over b)) (in-whole book k d inside is)
-        by_kind Cut is = absurd (cut-refuted p l s f (refuted k d inside) allowed b is)
+        by_kind Cut is = absurd (cut-refuted p claim l s f (refuted k d inside) allowed b is)
 
 -- ---- what is answered
 
 pub few-paths : FewPaths
-few-paths p (j.Equal book cert) h e = λ starts many.
+few-paths p claim (j.Equal book cert) h e = λ starts many.
     let ys = whole_paths book in
     let count : length starts ≤ length ys =
-    pigeons p starts ys many.different (λ k d inside. answers-in p h.tree book (get_or starts k d) h.proved (many.allowed k d inside)) in
+    pigeons p starts ys many.different (λ k d inside. answers-in p claim h.tree book (get_or starts k d) h.proved (many.allowed k d inside)) in
     omega (arith, count, many.count, h.few)
-few-paths p (j.Different start) h e = absurd (false≢true e)
-few-paths p (j.Unknown leaf log) h e = absurd (false≢true e)
-few-paths p (j.TooManyPaths starts) h e = absurd (false≢true e)
+few-paths p claim (j.Different start) h e = absurd (false≢true e)
+few-paths p claim (j.Unknown leaf log) h e = absurd (false≢true e)
+few-paths p claim (j.TooManyPaths starts) h e = absurd (false≢true e)
 
 pub equal-sound : Sound
-equal-sound p (j.Equal book cert) h e = sound p h.tree book h.proved
-equal-sound p (j.Different start) h e = absurd (false≢true e)
-equal-sound p (j.Unknown leaf log) h e = absurd (false≢true e)
-equal-sound p (j.TooManyPaths starts) h e = absurd (false≢true e)
+equal-sound p claim (j.Equal book cert) h e = sound p claim h.tree book h.proved
+equal-sound p claim (j.Different start) h e = absurd (false≢true e)
+equal-sound p claim (j.Unknown leaf log) h e = absurd (false≢true e)
+equal-sound p claim (j.TooManyPaths starts) h e = absurd (false≢true e)
 
 pub complete : Completeness
-complete p (j.Equal book cert) h enough few = record {
+complete p claim (j.Equal book cert) h enough few = record {
   equal = λ agreed. refl;
-  different = λ s d. absurd (false≢true (sym d.differs ∙ equal-sound p (j.Equal book cert) h refl s d.allowed));
+  different = λ s d. absurd (false≢true (sym d.differs ∙ equal-sound p claim (j.Equal book cert) h refl s d.allowed));
 }
-complete p (j.Different start) h enough few = record {
+complete p claim (j.Different start) h enough few = record {
   equal = λ agreed. absurd (false≢true (sym h.differs ∙ agreed (start_data start) h.allowed));
   different = λ s d. refl;
 }
-complete p (j.Unknown leaf log) h enough few = absurd (omega (arith, enough, h.1.small))
-complete p (j.TooManyPaths starts) h enough few = absurd (few starts h)
+complete p claim (j.Unknown leaf log) h enough few = absurd (omega (arith, enough, h.1.small))
+complete p claim (j.TooManyPaths starts) h enough few = absurd (few starts h)

@@ -18,44 +18,44 @@ use Rattle.jd_trees.specs.Trees as tree
 use Rattle.jd_books.specs.Trees.{Place, places, or_first, fork_fault, leaf_fault}
 use Rattle.jd_books.specs.Nodes.{after_nodes, node_fault, places_along, uncovered_along}
 use Rattle.jd_books.specs.Climbs.{Climb, path_of, nodes_of, IsClosed, is_left_of}
-use Rattle.jd_books.specs.Leaves.{Leaf as LeafOf, IsFaithful, IsBookOf}
-use Rattle.jd_books.specs.Checks.{right_lines, log_end, or_bad, or_open, first_bad, first_open, IsProved}
+use Rattle.jd_books.specs.Leaves.{Leaf as LeafOf, Claim, IsFaithfulTo, IsBookTo}
+use Rattle.jd_books.specs.Checks.{right_lines, log_end, or_bad, or_open, first_bad, first_open, IsProvedTo}
 use Rattle.jd_books.specs.Outcomes.{AreTooMany}
 use Rattle.jd_books.proofs.InOrder.{after_front, places-whole, uncovered-whole}
 use Rattle.jd_books.proofs.Climbing.{closed, left-longer, left-next, left-apart}
 use Rattle.jd_check.proofs.Taking.{uncovered-push, places-push, after-push, bad-push, open-push, book-push, asks-none}
 use Rattle.jd_check.proofs.Progressing.{node-after, node-fault, node-place}
-use Rattle.jd_walk.specs.Walked.{Walked, back_from}
+use Rattle.jd_walk.specs.Walked.{Walked, back_at, back_from}
 use Rattle.hp_model.specs.State.{Data}
 use Rattle.jd_judge.specs.Judging.{path_if_whole, whole_paths, IsTreeSoFar, AreStartsSoFar}
 
 -- ---- the tree
 
 -- some nodes and their book, of which the last is a leaf or a cut at a path
-pub record IsGrown (p : Problem) (path : List Bool) (nodes : List Node) (book : List LeafOf) : Type 0 where
+pub record IsGrown (p : Problem) (claim : Claim) (path : List Bool) (nodes : List Node) (book : List LeafOf) : Type 0 where
   pub closed_at : IsClosed nodes (next_path path)
   pub next : after_nodes (Some []) nodes ≡ next_path path
-  pub tree_is : IsTreeSoFar p nodes book
+  pub tree_is : IsTreeSoFar p claim nodes book
 
-book-length : (p : Problem) (ps : List Place) (book : List LeafOf) → IsBookOf p ps book → length book ≡ length ps
-book-length p ps book h = sym (length-map book (λ l. l.path)) ∙ ap length h.paths ∙ length-map ps (λ place. place.path)
+book-length : (p : Problem) (claim : Claim) (ps : List Place) (book : List LeafOf) → IsBookTo p claim ps book → length book ≡ length ps
+book-length p claim ps book h = sym (length-map book (λ l. l.path)) ∙ ap length h.paths ∙ length-map ps (λ place. place.path)
 
-pub grown : (p : Problem) (path : List Bool) (nodes : List Node) (book : List LeafOf) (kind : Kind) (log : List Line) (l : LeafOf) (climb : Climb)
-    → path_of climb ≡ path → nodes_of climb ≡ nodes → after_nodes (Some []) nodes ≡ Some path → IsTreeSoFar p nodes book
-    → leaf_fault p path kind ≡ None → l.path ≡ path → l.kind ≡ kind → IsFaithful p l → log_end l log ≡ right_lines true
-    → IsGrown p path (nodes ++ node kind log ∷ []) (book ++ l ∷ [])
-grown p path nodes book kind log l climb climb_path climb_nodes at h right path_is kind_is faithful ends =
+pub grown : (p : Problem) (claim : Claim) (path : List Bool) (nodes : List Node) (book : List LeafOf) (kind : Kind) (log : List Line) (l : LeafOf) (climb : Climb)
+    → path_of climb ≡ path → nodes_of climb ≡ nodes → after_nodes (Some []) nodes ≡ Some path → IsTreeSoFar p claim nodes book
+    → leaf_fault p path kind ≡ None → l.path ≡ path → l.kind ≡ kind → IsFaithfulTo p claim l → log_end l log ≡ right_lines true
+    → IsGrown p claim path (nodes ++ node kind log ∷ []) (book ++ l ∷ [])
+grown p claim path nodes book kind log l climb climb_path climb_nodes at h right path_is kind_is faithful ends =
     let ps = places_along (Some []) nodes in
     let q : Place = record { path = path; kind = kind; log = log } in
     let more : places_along (Some []) (nodes ++ node kind log ∷ []) ≡ ps ++ q ∷ [] = places-push (Some []) nodes (node kind log) path at ∙ ap (λ r. ps ++ r) (node-place path kind log) in
-    let n : length book ≡ length ps = book-length p ps book h.leaves in
+    let n : length book ≡ length ps = book-length p claim ps book h.leaves in
     record {
       closed_at = subst (λ ns. IsClosed (ns ++ node kind log ∷ []) (next_path path)) climb_nodes
           (subst (λ r. IsClosed (nodes_of climb ++ node kind log ∷ []) (next_path r)) climb_path (closed climb (tree.node_of kind log)));
       next = after-push (Some []) nodes (node kind log) path at ∙ node-after path kind log;
       tree_is = record {
         covered = uncovered-push p (Some []) nodes (node kind log) path at ∙ ap (λ o. or_first o (node_fault p path (node kind log))) h.covered ∙ node-fault p path kind log ∙ right;
-        leaves = subst (λ r. IsBookOf p r (book ++ l ∷ [])) (sym more) (book-push p ps q book l h.leaves path_is kind_is faithful);
+        leaves = subst (λ r. IsBookTo p claim r (book ++ l ∷ [])) (sym more) (book-push p claim ps q book l h.leaves path_is kind_is faithful);
         right = ap (first_bad (book ++ l ∷ [])) more ∙ bad-push book ps l q n
             ∙ ap (λ o. or_first o (or_bad path (log_end l log) None)) h.right ∙ ap (λ e. or_bad path e None) ends;
         refuted = ap (first_open (book ++ l ∷ [])) more ∙ open-push book ps l q n
@@ -64,9 +64,9 @@ grown p path nodes book kind log l climb climb_path climb_nodes at h right path_
     }
 
 -- the tree is whole where there is no next path
-pub whole-proved : (p : Problem) (path : List Bool) (nodes : List Node) (book : List LeafOf) → IsGrown p path nodes book → next_path path ≡ None
-    → (t : Tree) × (preorder t ≡ nodes) × IsProved p t book
-whole-proved p path nodes book g none =
+pub whole-proved : (p : Problem) (claim : Claim) (path : List Bool) (nodes : List Node) (book : List LeafOf) → IsGrown p claim path nodes book → next_path path ≡ None
+    → (t : Tree) × (preorder t ≡ nodes) × IsProvedTo p claim t book
+whole-proved p claim path nodes book g none =
     let is : IsClosed nodes None = subst (IsClosed nodes) none g.closed_at in
     let t = is.0 in
     let e = is.1 in
@@ -76,7 +76,7 @@ whole-proved p path nodes book g none =
       record {
         covered = record {
           covers = sym (uncovered-whole p t) ∙ ap (uncovered_along p (Some [])) e ∙ g.tree_is.covered;
-          leaves = subst (λ ps. IsBookOf p ps book) same g.tree_is.leaves;
+          leaves = subst (λ ps. IsBookTo p claim ps book) same g.tree_is.leaves;
         };
         right = ap (first_bad book) (sym same) ∙ g.tree_is.right;
         refuted = ap (first_open book) (sym same) ∙ g.tree_is.refuted;
@@ -84,18 +84,18 @@ whole-proved p path nodes book g none =
     )
 
 -- else the next tree stands at the next path
-pub next-climb : (p : Problem) (path next : List Bool) (nodes : List Node) (book : List LeafOf) → IsGrown p path nodes book → next_path path ≡ Some next
+pub next-climb : (p : Problem) (claim : Claim) (path next : List Bool) (nodes : List Node) (book : List LeafOf) → IsGrown p claim path nodes book → next_path path ≡ Some next
     → (climb : Climb) × (path_of climb ≡ next) × (nodes_of climb ≡ nodes)
-next-climb p path next nodes book g some = subst (IsClosed nodes) some g.closed_at
+next-climb p claim path next nodes book g some = subst (IsClosed nodes) some g.closed_at
 
 -- a fork more
-pub forked : (p : Problem) (path : List Bool) (nodes : List Node) (book : List LeafOf) → after_nodes (Some []) nodes ≡ Some path → IsTreeSoFar p nodes book → AsksAfter p path
-    → IsTreeSoFar p (nodes ++ Fork ∷ []) book
-forked p path nodes book at h asks =
+pub forked : (p : Problem) (claim : Claim) (path : List Bool) (nodes : List Node) (book : List LeafOf) → after_nodes (Some []) nodes ≡ Some path → IsTreeSoFar p claim nodes book → AsksAfter p path
+    → IsTreeSoFar p claim (nodes ++ Fork ∷ []) book
+forked p claim path nodes book at h asks =
     let same : places_along (Some []) (nodes ++ Fork ∷ []) ≡ places_along (Some []) nodes = places-push (Some []) nodes Fork path at ∙ append-nil (places_along (Some []) nodes) in
     record {
       covered = uncovered-push p (Some []) nodes Fork path at ∙ ap (λ o. or_first o (fork_fault p path)) h.covered ∙ asks-none p path asks;
-      leaves = subst (λ ps. IsBookOf p ps book) (sym same) h.leaves;
+      leaves = subst (λ ps. IsBookTo p claim ps book) (sym same) h.leaves;
       right = ap (first_bad book) same ∙ h.right;
       refuted = ap (first_open book) same ∙ h.refuted;
     }
@@ -153,10 +153,10 @@ pub record IsBackTo (w k : Walked) : Type 0 where
   pub problem : k.problem ≡ w.problem
   pub spent : k.spent ≡ w.spent
 
-pub back-some : (w k : Walked) → k ≡ back_from w k → is_some (next_path w.path) ≡ true → IsBackTo w k
+pub back-some : (w k : Walked) → k ≡ back_from w → is_some (next_path w.path) ≡ true → IsBackTo w k
 back-some w k is h = by_next (next_path w.path) refl is h
   where
-    by_next : (o : Option (List Bool)) → next_path w.path ≡ o → k ≡ elim o as (λ _. Walked) [ Some path ↦ record w { net = k.net; path = path; guards = k.guards; next = None } | None ↦ w ] → is_some o ≡ true
+    by_next : (o : Option (List Bool)) → next_path w.path ≡ o → k ≡ elim o as (λ _. Walked) [ Some path ↦ back_at w path | None ↦ w ] → is_some o ≡ true
         → IsBackTo w k
     by_next None e is h = absurd (false≢true h)
     by_next (Some path) e is h = record {

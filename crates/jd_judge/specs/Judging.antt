@@ -2,6 +2,7 @@
 use Rattle.std.specs.Prelude.{◌≡◌, ◌≢◌, ◌⊎◌, ◌≤◌, Bool, true, false, List, [], ◌∷◌, ◌++◌, length, map, flat_map, Option, Some, None, All, AllPairs}
 use Rattle.hp_model.specs.State.{Data}
 use Rattle.jd_model.specs.Problems.{Problem, allows, free_bits}
+use Rattle.jd_model.specs.Seen.{agree}
 use Rattle.jd_start.specs.declared.start.Start.{Start}
 use Rattle.jd_start.specs.Starts.{start_data}
 use Rattle.jd_trees.specs.declared.Kind.{Kind}
@@ -11,9 +12,9 @@ use Rattle.jd_trees.specs.Trees.{IsNode, Tree, preorder}
 use Rattle.jd_books.specs.Paths.{answers_of_start, begins}
 use Rattle.jd_books.specs.Nodes.{after_nodes, places_along, uncovered_along}
 use Rattle.jd_books.specs.Climbs.{Climb, is_left_of, nodes_of, path_of}
-use Rattle.jd_books.specs.Leaves.{IsBookOf, IsFaithful, Leaf, clauses_of}
-use Rattle.jd_books.specs.Checks.{IsProved, first_bad, first_open}
-use Rattle.jd_books.specs.Outcomes.{AreTooMany, IsDifference}
+use Rattle.jd_books.specs.Leaves.{Claim, IsBookTo, IsFaithfulTo, Leaf, clauses_of}
+use Rattle.jd_books.specs.Checks.{IsProvedTo, first_bad, first_open}
+use Rattle.jd_books.specs.Outcomes.{AreTooMany, IsCounterexample}
 use Rattle.jd_proving.specs.Proving.{IsUnknown}
 use Rattle.jd_leaves.specs.Views.{leaf_of}
 use Rattle.jd_walk.specs.Walked.{Walked}
@@ -34,29 +35,33 @@ whole_paths book = flat_map (λ l. path_if_whole l.kind l.path) book
 -- ---- answers
 
 -- the certificate's tree is proved by the book, and has no more whole leaves than the problem allows
-pub record IsEqual (p : Problem) (book : List Leaf) (cert : List Node) : Type 0 where
+pub record IsEqual (p : Problem) (claim : Claim) (book : List Leaf) (cert : List Node) : Type 0 where
   pub tree : Tree
   pub nodes_of_tree : preorder tree ≡ cert
-  pub proved : IsProved p tree book
+  pub proved : IsProvedTo p claim tree book
   pub few : length (whole_paths book) ≤ p.paths
 
 -- a faithful leaf that is whole, or a cut whose path isn't empty
-pub record IsUnknownAt (p : Problem) (l : Leaf) : Type 0 where
-  pub faithful : IsFaithful p l
+pub record IsUnknownAt (p : Problem) (claim : Claim) (l : Leaf) : Type 0 where
+  pub faithful : IsFaithfulTo p claim l
   pub place : (l.kind ≡ Whole) ⊎ (l.path ≢ [])
 
+abbrev pub IsJudgedTo : Problem → Claim → Judged → Type 0
+IsJudgedTo p claim (j.Equal book cert) = IsEqual p claim book cert
+IsJudgedTo p claim (j.Different start) = IsCounterexample p claim (start_data start)
+IsJudgedTo p claim (j.Unknown leaf log) = IsUnknownAt p claim (leaf_of leaf) × IsUnknown (clauses_of (leaf_of leaf)) (free_bits p) p.budget log
+IsJudgedTo p claim (j.TooManyPaths starts) = AreTooMany p starts
+
+-- where both routines are to agree
 abbrev pub IsJudged : Problem → Judged → Type 0
-IsJudged p (j.Equal book cert) = IsEqual p book cert
-IsJudged p (j.Different start) = IsDifference p (start_data start)
-IsJudged p (j.Unknown leaf log) = IsUnknownAt p (leaf_of leaf) × IsUnknown (clauses_of (leaf_of leaf)) (free_bits p) p.budget log
-IsJudged p (j.TooManyPaths starts) = AreTooMany p starts
+IsJudged p = IsJudgedTo p (agree p)
 
 -- ---- the way there
 
 -- what of a tree stands so far: it covers, each leaf and cut is faithful, and its lines refute it
-pub record IsTreeSoFar (p : Problem) (nodes : List Node) (book : List Leaf) : Type 0 where
+pub record IsTreeSoFar (p : Problem) (claim : Claim) (nodes : List Node) (book : List Leaf) : Type 0 where
   pub covered : uncovered_along p (Some []) nodes ≡ None
-  pub leaves : IsBookOf p (places_along (Some []) nodes) book
+  pub leaves : IsBookTo p claim (places_along (Some []) nodes) book
   pub right : first_bad book (places_along (Some []) nodes) ≡ None
   pub refuted : first_open book (places_along (Some []) nodes) ≡ None
 
@@ -67,14 +72,14 @@ pub record AreStartsSoFar (p : Problem) (book : List Leaf) (starts : List Data) 
   pub ordered : AllPairs (λ q r. is_left_of q r ≡ true) (whole_paths book)
 
 -- the judge stands at the walk's path, where the next tree stands
-pub record IsPlaced (p : Problem) (w : Walked) (nodes : List Node) (book : List Leaf) (starts : List Data) : Type 0 where
+pub record IsPlaced (p : Problem) (claim : Claim) (w : Walked) (nodes : List Node) (book : List Leaf) (starts : List Data) : Type 0 where
   pub problem : w.problem ≡ p
   pub unspent : w.spent ≡ false
   pub climb : Climb
   pub climb_path : path_of climb ≡ w.path
   pub climb_nodes : nodes_of climb ≡ nodes
   pub next : after_nodes (Some []) nodes ≡ Some w.path
-  pub tree : IsTreeSoFar p nodes book
+  pub tree : IsTreeSoFar p claim nodes book
   pub ranges : All IsNode nodes
   pub starts_are : AreStartsSoFar p book starts
   pub few : length starts ≤ p.paths
@@ -99,13 +104,13 @@ abbrev pub with_start : List Data → Option Start → List Data
 with_start starts None = starts
 with_start starts (Some start) = starts ++ start_data start ∷ []
 
-abbrev pub IsJudgingAt : {X : Type 0} {F : X → Type 0} {M : _} → Problem → Judging X F M → Type 0
-IsJudgingAt p judging = IsPlaced p judging.walk judging.nodes.items judging.book judging.starts
+abbrev pub IsJudgingAt : {X : Type 0} {F : X → Type 0} {M : _} → Problem → Claim → Judging X F M → Type 0
+IsJudgingAt p claim judging = IsPlaced p claim judging.walk judging.nodes.items judging.book judging.starts
 
-pub record IsJudging {X : Type 0} {F : X → Type 0} {M : _} (p : Problem) (judging : Judging X F M) : Type 0 where
-  pub placed : IsJudgingAt p judging
+pub record IsJudging {X : Type 0} {F : X → Type 0} {M : _} (p : Problem) (claim : Claim) (judging : Judging X F M) : Type 0 where
+  pub placed : IsJudgingAt p claim judging
   pub witness : IsWitness p judging.walk.path judging.witness
 
-abbrev pub IsStep : {X : Type 0} {F : X → Type 0} {M : _} → Problem → Step X F M → Type 0
-IsStep p (s.Go judging) = IsJudging p judging
-IsStep p (s.Over judged) = IsJudged p judged
+abbrev pub IsStep : {X : Type 0} {F : X → Type 0} {M : _} → Problem → Claim → Step X F M → Type 0
+IsStep p claim (s.Go judging) = IsJudging p claim judging
+IsStep p claim (s.Over judged) = IsJudgedTo p claim judged

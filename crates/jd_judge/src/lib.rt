@@ -7,13 +7,15 @@
 //! - what follows from an answer: `laws`
 #![tactic(auto)]
 
+mod claims;
 mod judges;
 pub mod laws;
 mod outcomes;
 mod starts;
 mod steps;
 
+pub use claims::{Agreement, Claim, NoDifference};
 pub use jd_check::{Book, CheckRun, Checked, Kind, Leaf, Path, check};
-pub use judges::judge;
+pub use judges::{judge, judge_claim};
 pub use outcomes::Judged;
 pub use starts::Starts;

@@ -5,13 +5,14 @@ ghost use Rattle.std.specs.Prelude.{◌≡◌, ◌≢◌, ◌<◌, ◌≤◌, �
 ghost use Rattle.jd_model.specs.Problems.{Problem as ProblemOf, IsProblem, free_bits, start_of};
 ghost use Rattle.jd_problem.specs.Problems.{problem_of};
 ghost use Rattle.jd_start.specs.Starts.{start_data};
-ghost use Rattle.jd_books.specs.Leaves.{clauses_of};
+ghost use Rattle.jd_books.specs.Leaves.{Claim as ClaimOf, clauses_of};
 ghost use Rattle.jd_books.specs.Paths.{AsksAfter, OverAfter};
 ghost use Rattle.jd_leaves.specs.Views.{leaf_of};
 ghost use Rattle.jd_propagate.specs.Answers.{IsAnswer};
 ghost use Rattle.jd_walk.specs.Walked.{has_asked, is_done};
 ghost use Rattle.jd_judge.specs.Judging.{IsJudging, IsJudgingAt, IsOwn, IsStep, with_start};
 
+use crate::claims::Claim;
 use crate::outcomes::{Judged, Judging, Step};
 use crate::starts::Starts;
 use hp_io::NoMemory;
@@ -47,11 +48,17 @@ fn start_with(problem: &Problem, bits: &[bool]) -> Start
 
 /// Looks for a start that comes to the path that was just entered. Where none does, a cut stands
 /// there, and the walk goes back to the next path; where there is no next path, the tree is whole.
-fn enter<'r>(alloc: Global, problem: &Problem, judging: Judging<'r>) -> Result<Step<'r>, NoMemory>
+fn enter<'r, C: Claim>(
+    alloc: Global,
+    problem: &Problem,
+    claim: &C,
+    judging: Judging<'r>,
+) -> Result<Step<'r>, NoMemory>
+    requires claim { C.is_of claim.now (problem_of problem.now) }
     requires path { judging.walk.path ≢ [] }
     requires ranges { IsProblem (problem_of problem.now) }
-    requires placed { IsJudgingAt (problem_of problem.now) judging }
-    ensures { IfOk result (IsStep (problem_of problem.now)) }
+    requires placed { IsJudgingAt (problem_of problem.now) (C.holds claim.now) judging }
+    ensures { IfOk result (IsStep (problem_of problem.now) (C.holds claim.now)) }
 {
     let mut judging = judging;
     // 2^64 turns never pass: the bound stands in for a measure.
@@ -76,21 +83,23 @@ fn enter<'r>(alloc: Global, problem: &Problem, judging: Judging<'r>) -> Result<S
 }
 
 /// Answers a question with no, and enters that path.
-fn at_question<'r>(
+fn at_question<'r, C: Claim>(
     alloc: Global,
     problem: &Problem,
+    claim: &C,
     judging: Judging<'r>,
 ) -> Result<Step<'r>, NoMemory>
+    requires claim { C.is_of claim.now (problem_of problem.now) }
     requires asked { has_asked judging.walk.next ≡ true }
     requires asks { AsksAfter (problem_of problem.now) judging.walk.path }
     requires ranges { IsProblem (problem_of problem.now) }
-    requires placed { IsJudgingAt (problem_of problem.now) judging }
-    ensures { IfOk result (IsStep (problem_of problem.now)) }
+    requires placed { IsJudgingAt (problem_of problem.now) (C.holds claim.now) judging }
+    ensures { IfOk result (IsStep (problem_of problem.now) (C.holds claim.now)) }
 {
     let mut judging = judging;
     judging.nodes.push(Node::Fork)?;
     judging.walk.answer(false)?;
-    let step = enter(alloc, problem, judging)?;
+    let step = enter(alloc, problem, claim, judging)?;
     Ok(step)
 }
 
@@ -109,22 +118,24 @@ fn keep(starts: &mut Starts, start: Option<Start>) -> Result<(), NoMemory>
 
 /// Decides the leaf at the end of both runs, to which a start of its own comes, and enters the next
 /// path.
-fn decide<'r>(
+fn decide<'r, C: Claim>(
     alloc: Global,
     problem: &Problem,
+    claim: &C,
     judging: Judging<'r>,
     start: Option<Start>,
 ) -> Result<Step<'r>, NoMemory>
+    requires claim { C.is_of claim.now (problem_of problem.now) }
     requires done { is_done judging.walk.next ≡ true }
     requires over { OverAfter (problem_of problem.now) judging.walk.path }
     requires ranges { IsProblem (problem_of problem.now) }
-    requires placed { IsJudgingAt (problem_of problem.now) judging }
+    requires placed { IsJudgingAt (problem_of problem.now) (C.holds claim.now) judging }
     requires own { IsOwn (problem_of problem.now) judging.walk.path start }
     requires room { length judging.starts < problem.now.paths }
-    ensures { IfOk result (IsStep (problem_of problem.now)) }
+    ensures { IfOk result (IsStep (problem_of problem.now) (C.holds claim.now)) }
 {
     let mut judging = judging;
-    let leaf = judging.walk.leaf(Kind::Whole)?;
+    let leaf = claim.whole_leaf(alloc, &mut judging.walk)?;
     match ask(alloc, problem, &leaf)? {
         Proof::Model(bits) => Ok(Step::Over(Judged::Different(start_with(
             problem,
@@ -138,7 +149,7 @@ fn decide<'r>(
             if !judging.walk.back() {
                 return Ok(Step::Over(judging.into_equal()));
             }
-            let step = enter(alloc, problem, judging)?;
+            let step = enter(alloc, problem, claim, judging)?;
             Ok(step)
         }
     }
@@ -146,8 +157,8 @@ fn decide<'r>(
 
 /// One start more than the problem has paths.
 fn too_many<'r>(judging: Judging<'r>, start: Start) -> Result<Step<'r>, NoMemory>
-    ensures { IfOk result (λ step. (p : ProblemOf) → IsJudgingAt p judging.entry → OverAfter p judging.entry.walk.path → IsOwn p judging.entry.walk.path (Some start)
-        → length judging.entry.starts ≡ p.paths → IsStep p step) }
+    ensures { IfOk result (λ step. (p : ProblemOf) (claim : ClaimOf) → IsJudgingAt p claim judging.entry → OverAfter p judging.entry.walk.path → IsOwn p judging.entry.walk.path (Some start)
+        → length judging.entry.starts ≡ p.paths → IsStep p claim step) }
 {
     let mut starts = judging.into_starts();
     starts.push(start)?;
@@ -162,17 +173,23 @@ fn is_full(starts: &Starts, problem: &Problem) -> bool
 }
 
 /// Decides the leaf at the end of both runs, unless its start is one too many.
-fn at_end<'r>(alloc: Global, problem: &Problem, judging: Judging<'r>) -> Result<Step<'r>, NoMemory>
+fn at_end<'r, C: Claim>(
+    alloc: Global,
+    problem: &Problem,
+    claim: &C,
+    judging: Judging<'r>,
+) -> Result<Step<'r>, NoMemory>
+    requires claim { C.is_of claim.now (problem_of problem.now) }
     requires done { is_done judging.walk.next ≡ true }
     requires over { OverAfter (problem_of problem.now) judging.walk.path }
     requires ranges { IsProblem (problem_of problem.now) }
-    requires judging { IsJudging (problem_of problem.now) judging }
-    ensures { IfOk result (IsStep (problem_of problem.now)) }
+    requires judging { IsJudging (problem_of problem.now) (C.holds claim.now) judging }
+    ensures { IfOk result (IsStep (problem_of problem.now) (C.holds claim.now)) }
 {
     let mut judging = judging;
     match judging.witness.take() {
         None => {
-            let step = decide(alloc, problem, judging, None)?;
+            let step = decide(alloc, problem, claim, judging, None)?;
             Ok(step)
         }
         Some(start) => {
@@ -180,30 +197,32 @@ fn at_end<'r>(alloc: Global, problem: &Problem, judging: Judging<'r>) -> Result<
                 let step = too_many(judging, start)?;
                 return Ok(step);
             }
-            let step = decide(alloc, problem, judging, Some(start))?;
+            let step = decide(alloc, problem, claim, judging, Some(start))?;
             Ok(step)
         }
     }
 }
 
 /// Goes on from a path to which a start comes, or from the empty path.
-pub fn step<'r>(
+pub fn step<'r, C: Claim>(
     alloc: Global,
     problem: &Problem,
+    claim: &C,
     judging: Judging<'r>,
 ) -> Result<Step<'r>, NoMemory>
+    requires claim { C.is_of claim.now (problem_of problem.now) }
     requires ranges { IsProblem (problem_of problem.now) }
-    requires judging { IsJudging (problem_of problem.now) judging }
-    ensures { IfOk result (IsStep (problem_of problem.now)) }
+    requires judging { IsJudging (problem_of problem.now) (C.holds claim.now) judging }
+    ensures { IfOk result (IsStep (problem_of problem.now) (C.holds claim.now)) }
 {
     let mut judging = judging;
     match judging.walk.next()? {
         Next::Ask(_) => {
-            let step = at_question(alloc, problem, judging)?;
+            let step = at_question(alloc, problem, claim, judging)?;
             Ok(step)
         }
         Next::Done(_) => {
-            let step = at_end(alloc, problem, judging)?;
+            let step = at_end(alloc, problem, claim, judging)?;
             Ok(step)
         }
     }

@@ -1,5 +1,5 @@
 -- A learning search once all clauses were taken, after propagation, after a decision, and after decisions are taken back.
-use Rattle.std.proofs.Common.{◌≡◌, ℕ, ◌+◌, ◌-◌, ◌<◌, ◌≤◌, ℤ, false, List, [], ◌∷◌, ◌++◌, take, length, get_or, refl, sym, ◌∙◌, ap, subst, arith}
+use Rattle.std.proofs.Common.{◌≡◌, ℕ, ◌+◌, ◌<◌, ◌≤◌, ℤ, false, List, [], ◌∷◌, ◌++◌, take, length, get_or, refl, sym, ◌∙◌, ap, subst, arith}
 use Rattle.std.specs.Prelude.{Vec, neg_ℤ}
 use Rattle.std.specs.declared.alloc.Global.{Global}
 use Rattle.std.proofs.Math.Seq.{take-take}
@@ -90,18 +90,8 @@ learning-grows clauses s fs ss ls trail reasons h watched grows saved kept =
         let C : List ℤ → Type 0 = λ xs. AreCovered (known clauses s) s.long xs in
         record { within = omega arith; settled = saved n le o.settled; covered = subst C (sym (front-stays s.trail trail n le grows)) o.covered }
 
--- a decision
-module _ (clauses : List (List ℤ)) (d : ℤ) (s : Solver) (trail : List ℤ) (reasons : Vec Reason Global) (limits : Vec ℕ Global) (h : IsQuietSearch clauses s)
-    (et : trail ≡ s.trail ++ d ∷ []) (er : reasons.items ≡ s.reasons.items ++ Decision ∷ []) (el : limits.items ≡ s.limits.items ++ length s.trail ∷ []) where
-  grows : IsWithin s.trail trail
-  grows = grown s.trail trail (extends-push s.trail trail d et)
-
-  long_trail : length trail ≡ length s.trail + 1
-  long_trail = ap length et ∙ length_push s.trail d
-
-  front : (m : ℕ) → m ≤ length s.trail → take m trail ≡ take m s.trail
-  front m le = ap (take m) et ∙ take-append-le m s.trail (d ∷ []) le
-
+-- a level is opened
+module _ (clauses : List (List ℤ)) (s : Solver) (limits : Vec ℕ Global) (h : IsQuietSearch clauses s) (el : limits.items ≡ s.limits.items ++ length s.trail ∷ []) where
   many : length limits.items ≡ length s.limits.items + 1
   many = ap length el ∙ length_push s.limits.items (length s.trail)
 
@@ -111,29 +101,65 @@ module _ (clauses : List (List ℤ)) (d : ℤ) (s : Solver) (trail : List ℤ) (
   limit_new : get_or limits.items (length s.limits.items) 0 ≡ length s.trail
   limit_new = ap (λ (xs : List ℕ). get_or xs (length s.limits.items) 0) el ∙ get_or_push s.limits.items (length s.trail) 0 (length s.limits.items) refl
 
-  abbrev next : Solver
-  next = record s { trail = trail; reasons = reasons; limits = limits }
+  abbrev opened : Solver
+  opened = record s { limits = limits }
 
-  at_rest : (n : ℕ) → n ≤ length s.trail → AreSettled s.long s.firsts.items s.seconds.items (take n s.trail) (take n s.trail) → AreCovered (known clauses s) s.long (take n s.trail) → IsRest clauses next n
-  at_rest n le settled covered = record {
-    within = omega (arith, long_trail);
-    settled = (let P : List ℤ → Type 0 = λ xs. AreSettled s.long s.firsts.items s.seconds.items xs xs in subst P (sym (front n le)) settled);
-    covered = (let P : List ℤ → Type 0 = λ xs. AreCovered (known clauses s) s.long xs in subst P (sym (front n le)) covered);
-  }
+  rest_of : (n : ℕ) → IsRest clauses s n → IsRest clauses opened n
+  rest_of n o = record { within = o.within; settled = o.settled; covered = o.covered }
 
-  old_rest : (j : ℕ) → j < length s.limits.items → IsRest clauses next (get_or limits.items j 0)
-  old_rest j lt = (let o = h.learning.rests j lt in let P : ℕ → Type 0 = λ n. IsRest clauses next n in subst P (sym (limit_old j lt)) (at_rest (get_or s.limits.items j 0) o.within o.settled o.covered))
+  old_rest : (j : ℕ) → j < length s.limits.items → IsRest clauses opened (get_or limits.items j 0)
+  old_rest j lt = (let P : ℕ → Type 0 = λ n. IsRest clauses opened n in subst P (sym (limit_old j lt)) (rest_of (get_or s.limits.items j 0) (h.learning.rests j lt)))
 
-  new_rest : IsRest clauses next (get_or limits.items (length s.limits.items) 0)
+  new_rest : IsRest clauses opened (get_or limits.items (length s.limits.items) 0)
   new_rest =
       let n = length s.trail in
-      let P : ℕ → Type 0 = λ k. IsRest clauses next k in
+      let P : ℕ → Type 0 = λ k. IsRest clauses opened k in
       let S : List ℤ → Type 0 = λ xs. AreSettled s.long s.firsts.items s.seconds.items xs xs in
       let C : List ℤ → Type 0 = λ xs. AreCovered (known clauses s) s.long xs in
       let e : take n s.trail ≡ s.trail = take-beyond s.trail n (omega arith) in
-      subst P (sym limit_new) (at_rest n (omega arith) (subst S (sym e) h.settled) (subst C (sym e) h.learning.covered))
+      subst P (sym limit_new) (record { within = omega arith; settled = subst S (sym e) h.settled; covered = subst C (sym e) h.learning.covered })
 
-  pub learning-decided : IsLearning clauses (record s { trail = trail; reasons = reasons; limits = limits })
+  pub begun-opened : IsBegun clauses (record s { limits = limits }) (length s.trail)
+  begun-opened = record {
+    learning = record {
+      watched = h.learning.watched;
+      origins = h.learning.origins;
+      reasons = h.learning.reasons;
+      covered = h.learning.covered;
+      rests = λ j lt. each_more (λ k. IsRest clauses opened (get_or limits.items k 0)) (length s.limits.items) j old_rest new_rest (omega (arith, many));
+      order = λ i j less lt. each_more (λ k. i < k → get_or limits.items i 0 ≤ get_or limits.items k 0) (length s.limits.items) j
+          (λ k b under. (let e = limit_old k b in let f = limit_old i (omega arith) in let g = h.learning.order i k under b in omega arith))
+          (λ under. (let e = limit_new in let f = limit_old i under in let g = (h.learning.rests i under).within in omega arith)) (omega (arith, many)) less;
+      lines = h.learning.lines;
+    };
+    settled = (let P : List ℤ → Type 0 = λ xs. AreSettled s.long s.firsts.items s.seconds.items s.trail xs in
+        subst P (sym (take-beyond s.trail (length s.trail) (omega arith))) h.settled);
+    from_in = omega arith;
+  }
+
+-- a literal is decided on the level that is open
+module _ (clauses : List (List ℤ)) (from : ℕ) (d : ℤ) (s : Solver) (trail : List ℤ) (reasons : Vec Reason Global) (h : IsBegun clauses s from)
+    (et : trail ≡ s.trail ++ d ∷ []) (er : reasons.items ≡ s.reasons.items ++ Decision ∷ []) where
+  grows : IsWithin s.trail trail
+  grows = grown s.trail trail (extends-push s.trail trail d et)
+
+  long_trail : length trail ≡ length s.trail + 1
+  long_trail = ap length et ∙ length_push s.trail d
+
+  front : (m : ℕ) → m ≤ length s.trail → take m trail ≡ take m s.trail
+  front m le = ap (take m) et ∙ take-append-le m s.trail (d ∷ []) le
+
+  abbrev next : Solver
+  next = record s { trail = trail; reasons = reasons }
+
+  rest_stays : (n : ℕ) → IsRest clauses s n → IsRest clauses next n
+  rest_stays n o = record {
+    within = (let le = o.within in omega (arith, long_trail));
+    settled = (let P : List ℤ → Type 0 = λ xs. AreSettled s.long s.firsts.items s.seconds.items xs xs in subst P (sym (front n o.within)) o.settled);
+    covered = (let P : List ℤ → Type 0 = λ xs. AreCovered (known clauses s) s.long xs in subst P (sym (front n o.within)) o.covered);
+  }
+
+  learning-decided : IsLearning clauses next
   learning-decided =
       let store = store_of clauses s.lines.items in
       let T : List ℤ → Type 0 = λ xs. AreReasons s.long store xs [] xs reasons.items in
@@ -145,21 +171,17 @@ module _ (clauses : List (List ℤ)) (d : ℤ) (s : Solver) (trail : List ℤ) (
             (reasons-weaker s.long s.long store store s.trail (s.trail ++ d ∷ []) [] [] s.trail s.reasons.items (same_clauses s.long) (λ id c is. is) (λ l is. has-append_left s.trail (d ∷ []) l is) (λ l is. is) h.learning.reasons)
             (has-append_right s.trail (d ∷ []) d (has-here d []))));
         covered = λ k lt. covered-grows s.long s.trail trail (get_or (known clauses s) k []) grows (h.learning.covered k lt);
-        rests = λ j lt. each_more (λ k. IsRest clauses next (get_or limits.items k 0)) (length s.limits.items) j old_rest new_rest (omega (arith, many));
-        order = λ i j less lt. each_more (λ k. i < k → get_or limits.items i 0 ≤ get_or limits.items k 0) (length s.limits.items) j
-            (λ k b under. (let e = limit_old k b in let f = limit_old i (omega arith) in let g = h.learning.order i k under b in omega arith))
-            (λ under. (let e = limit_new in let f = limit_old i under in let g = (h.learning.rests i under).within in omega arith)) (omega (arith, many)) less;
+        rests = λ j lt. rest_stays (get_or s.limits.items j 0) (h.learning.rests j lt);
+        order = h.learning.order;
         lines = h.learning.lines;
       }
 
-  pub begun-decided : IsBegun clauses (record s { trail = trail; reasons = reasons; limits = limits }) (length trail - 1)
+  pub begun-decided : IsBegun clauses (record s { trail = trail; reasons = reasons }) from
   begun-decided = record {
     learning = learning-decided;
     settled = (let P : List ℤ → Type 0 = λ xs. AreSettled s.long s.firsts.items s.seconds.items trail xs in
-        let e : take (length trail - 1) trail ≡ s.trail = ap (λ (k : ℕ). take k trail) (let q : length trail - 1 ≡ length s.trail = omega (arith, long_trail) in q)
-        ∙ front (length s.trail) (omega arith) ∙ take-beyond s.trail (length s.trail) (omega arith) in
-        subst P (sym e) (λ c lt. settled-grows s.trail s.trail trail (literal_at s.firsts.items c) (literal_at s.seconds.items c) grows (h.settled c lt)));
-    from_in = omega arith;
+        subst P (sym (front from h.from_in)) (λ c lt. settled-grows (take from s.trail) s.trail trail (literal_at s.firsts.items c) (literal_at s.seconds.items c) grows (h.settled c lt)));
+    from_in = (let le = h.from_in in omega (arith, long_trail));
   }
 
 -- decisions are taken back

@@ -388,6 +388,11 @@ impl Order {
         None
     }
 
+    /// Whether what is left stands in no clause.
+    pub fn is_at_rest(&self) -> bool {
+        self.heap.is_empty()
+    }
+
     /// The next variable as the literal to be decided, or None where none is left. Variables that
     /// have a value are passed over.
     pub fn next(&mut self, trail: &Trail) -> Option<i32>

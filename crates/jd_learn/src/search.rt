@@ -110,18 +110,73 @@ fn choose(order: &mut Order, solver: &Solver, inputs: u32) -> Option<i32>
     Some(literal_of(variable))
 }
 
-/// Decides a literal.
-fn decide(_clauses: &Clauses, solver: &mut Solver, l: i32) -> Result<(), NoMemory>
-    requires quiet { IsQuietSearch _clauses.now solver.old }
-    requires literal { IsLiteral l }
-    requires open { has_value solver.old.trail l ≡ false }
-    ensures begun { OnOk result (IsBegun _clauses.now solver.new (length solver.new.trail - 1)) }
-    ensures some { OnOk result (0 < length solver.new.trail) }
+/// Opens a level: what is decided from here on is taken back together.
+fn open_level(_clauses: &Clauses, solver: &mut Solver) -> Result<(), NoMemory>
+    requires { IsQuietSearch _clauses.now solver.old }
+    ensures begun { OnOk result (IsBegun _clauses.now solver.new (length solver.old.trail)) }
+    ensures trail { solver.new.trail ≡ solver.old.trail }
     ensures lines { solver.new.lines.items ≡ solver.old.lines.items }
 {
     solver.limits.push(solver.trail.len())?;
+    Ok(())
+}
+
+/// Decides a literal on the level that is open, before propagation from a place on.
+fn decide(_clauses: &Clauses, solver: &mut Solver, l: i32, _from: usize) -> Result<(), NoMemory>
+    requires begun { IsBegun _clauses.now solver.old _from }
+    requires literal { IsLiteral l }
+    requires open { has_value solver.old.trail l ≡ false }
+    ensures begun { OnOk result (IsBegun _clauses.now solver.new _from) }
+    ensures lines { solver.new.lines.items ≡ solver.old.lines.items }
+{
     make_true(&mut solver.trail, &mut solver.reasons, l, Reason::Decision)?;
     Ok(())
+}
+
+/// Decides all variables that are left on the level that is open. Where they stand in no clause, one
+/// propagation serves them all.
+fn decide_rest(
+    clauses: &Clauses,
+    solver: &mut Solver,
+    order: &mut Order,
+    inputs: u32,
+    from: usize,
+) -> Result<(), NoMemory>
+    requires { IsBegun clauses.now solver.old from }
+    ensures begun { OnOk result (IsBegun clauses.now solver.new from) }
+    ensures lines { solver.new.lines.items ≡ solver.old.lines.items }
+{
+    for _ in 0..inputs {
+        let Some(l) = order.next(&solver.trail) else {
+            return Ok(());
+        };
+        decide(clauses, solver, l, from)?;
+    }
+    Ok(())
+}
+
+/// Decides a literal, and with it all that is left where no variable of a clause is; then propagates.
+fn try_literal(
+    clauses: &Clauses,
+    solver: &mut Solver,
+    order: &mut Order,
+    inputs: u32,
+    l: i32,
+) -> Result<Option<usize>, NoMemory>
+    requires quiet { IsQuietSearch clauses.now solver.old }
+    requires literal { IsLiteral l }
+    requires open { has_value solver.old.trail l ≡ false }
+    ensures ended { IfOk result (λ found. IsEnded clauses.now solver.new found) }
+    ensures lines { solver.new.lines.items ≡ solver.old.lines.items }
+{
+    let from = solver.trail.len();
+    open_level(clauses, solver)?;
+    decide(clauses, solver, l, from)?;
+    if order.is_at_rest() {
+        decide_rest(clauses, solver, order, inputs, from)?;
+    }
+    let conflict = run(clauses, solver, order, from)?;
+    Ok(conflict)
 }
 
 /// Decides the next literal, or finds that all inputs have values.
@@ -144,9 +199,8 @@ fn descend(
     match choose(order, solver, inputs) {
         None => Ok(Turned::Model(values(alloc, &solver.trail, inputs)?)),
         Some(l) => {
-            decide(clauses, solver, l)?;
-            let turn = go_on(clauses, solver, order)?;
-            Ok(turn)
+            let conflict = try_literal(clauses, solver, order, inputs, l)?;
+            Ok(Turned::Goes(conflict))
         }
     }
 }

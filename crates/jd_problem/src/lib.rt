@@ -5,6 +5,7 @@
 //! - Its starts: `Problem::in_range`, `allows`, `free_bits`, `start_of` some `Bits`, `blocks`.
 //! - Texts of problems: `read_problem` with the bytes that it takes, `write_problem`; `ProblemReader` for
 //!   a problem whose lines come one after another.
+//! - Lines that other texts share with problems: `take_kind`, `take_assembly`, `one_number`.
 //! - Texts of starts: `read_start` for a problem, `write_start`.
 //! - The first bad line: `ProblemFault` with its `ProblemCause`.
 #![tactic(auto)]
@@ -30,7 +31,9 @@ pub use hp_model::Extent;
 pub use hp_words::{Base, Content, Mode, WordSize};
 pub use jd_model::{Against, Assume, NumPart, ProblemCause, Relation};
 pub use jd_start::{Assumed, Bits, Fixed, Nibbles, Part, Parts, Start};
+pub use line_words::one_number;
 pub use problem::Problem;
+pub use problem_lines::{take_assembly, take_kind};
 pub use problem_reader::read_problem;
 pub use problem_writer::write_problem;
 pub use reading::Reading as ProblemReader;

@@ -25,7 +25,7 @@ pub fn only_word(line: &[u8], at: usize) -> Option<&[u8]>
     Some(word)
 }
 
-/// One number.
+/// One number in decimal, of 1 to 10 digits, and no word more.
 pub fn one_number(line: &[u8]) -> Option<u64>
     ensures { option_map number result ≡ one_number (words_of line.now) }
 {

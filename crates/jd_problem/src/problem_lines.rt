@@ -143,8 +143,9 @@ fn take_section(reading: &mut Reading, kind: LineKind, rest: &[u8]) -> Result<()
     Ok(())
 }
 
-/// A line whose first word is of a kind, by the words that follow.
-fn take_kind(reading: &mut Reading, kind: LineKind, rest: &[u8]) -> Result<(), ProblemCause>
+/// A line whose first word is of a kind, by the words that follow. What the reading is after an `Err`
+/// isn't said.
+pub fn take_kind(reading: &mut Reading, kind: LineKind, rest: &[u8]) -> Result<(), ProblemCause>
     ensures { TakesKind reading.old kind rest.now result reading.new }
 {
     match kind {
@@ -156,8 +157,8 @@ fn take_kind(reading: &mut Reading, kind: LineKind, rest: &[u8]) -> Result<(), P
     }
 }
 
-/// A line of a routine.
-fn take_assembly(reading: &mut Reading, line: &[u8]) -> Result<(), ProblemCause>
+/// A line of a routine: one operation as assembly. What the reading is after an `Err` isn't said.
+pub fn take_assembly(reading: &mut Reading, line: &[u8]) -> Result<(), ProblemCause>
     ensures { Takes (assembly_line (reading_of reading.old) (words_of line.now))
         result (reading_of reading.new) }
 {

@@ -1,10 +1,13 @@
 -- A clause more that was taken.
-use Rattle.std.proofs.Common.{◌≡◌, inl, inr, ℕ, suc, ◌+◌, ◌<◌, ℤ, List, [], ◌∷◌, ◌++◌, length, get_or, refl, ap, sym, ◌∙◌, subst, arith}
+use Rattle.std.proofs.Common.{◌≡◌, inl, inr, Bool, true, false, ℕ, suc, ◌+◌, ◌<◌, ℤ, List, [], ◌∷◌, ◌++◌, length, get_or, refl, ap, sym, ◌∙◌, subst, arith}
+use Rattle.std.specs.Prelude.{MatchBool}
 use Rattle.std.proofs.lemmas.List.{get_or_append_left, get_or_push, length_push}
 use Rattle.jd_propagate.specs.Quiet.{IsWithin}
 use Rattle.jd_propagate.specs.Passing.{clause_of}
 use Rattle.jd_propagate.proofs.Attaching.{each_more}
-use Rattle.jd_prover.specs.Solving.{AreOrigins, IsCovered}
+use Rattle.jd_propagate.specs.Hints.{IsFalseBy}
+use Rattle.jd_prover.specs.declared.solver.Solver.{Solver}
+use Rattle.jd_prover.specs.Solving.{AreOrigins, IsCovered, IsTaken, IsTakenBy, IsUnitTaken}
 
 pub origins-more : (clauses long : List (List ℤ)) (origins : List ℕ) (at : ℕ) → at < length clauses → AreOrigins clauses long origins
     → AreOrigins clauses (long ++ clause_of clauses at ∷ []) (origins ++ at ∷ [])
@@ -41,3 +44,36 @@ covered-last long trues more = inl (length long, omega (arith, length_push long 
 -- what holds of so many and of the next holds of one more
 pub next_too : (P : ℕ → Type 0) (n : ℕ) → ((k : ℕ) → k < n → P k) → P n → (k : ℕ) → k < suc n → P k
 next_too P n old new k lt = each_more P n k old new (omega arith)
+
+-- fewer clauses are taken too
+pub taken-none : (clauses : List (List ℤ)) (n : ℕ) (s : Solver) → IsTaken clauses n s → IsTaken clauses 0 s
+taken-none clauses n s t = record {
+  watched = t.watched;
+  known = t.known;
+  covered = λ k lt. absurd (omega arith);
+  no_decisions = t.no_decisions;
+  no_limits = t.no_limits;
+  no_lines = t.no_lines;
+}
+
+-- a clause of one literal is the next one
+pub unit-next : (clauses : List (List ℤ)) (n : ℕ) (s : Solver) (kept : Bool) → IsUnitTaken clauses n n s kept → IsTakenBy clauses n s kept
+unit-next clauses n s false h = h
+unit-next clauses n s true h =
+    let t = h.0 in
+    record {
+      watched = t.watched;
+      known = t.known;
+      covered = next_too (λ k. IsCovered s.long s.trail (clause_of clauses k)) n t.covered h.1;
+      no_decisions = t.no_decisions;
+      no_limits = t.no_limits;
+      no_lines = t.no_lines;
+    }
+
+pub unit-stays : (clauses : List (List ℤ)) (n at : ℕ) (s : Solver) (kept : Bool) → IsUnitTaken clauses n at s kept → IsTaken clauses n s
+unit-stays clauses n at s false h = h.0
+unit-stays clauses n at s true h = h.0
+
+pub unit-false : (clauses : List (List ℤ)) (n at : ℕ) (s : Solver) (kept : Bool) → IsUnitTaken clauses n at s kept → MatchBool kept (Unit {0}) (IsFalseBy s.trail (clause_of clauses at))
+unit-false clauses n at s false h = h.1
+unit-false clauses n at s true h = tt

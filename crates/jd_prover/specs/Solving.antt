@@ -67,10 +67,15 @@ abbrev pub IsTakenBy : List (List ℤ) → ℕ → Solver → Bool → Type 0
 IsTakenBy clauses n s true = IsTaken clauses (suc n) s
 IsTakenBy clauses n s false = IsTaken clauses n s × IsFalseBy s.trail (clause_of clauses n)
 
--- all clauses were taken, or one of them is false
-abbrev pub AreTaken : List (List ℤ) → Solver → Option ℕ → Type 0
-AreTaken clauses s None = IsTaken clauses (length clauses) s
-AreTaken clauses s (Some n) = (n < length clauses) × IsTaken clauses n s × IsFalseBy s.trail (clause_of clauses n)
+-- a clause of one literal is true or false, and so many clauses stay taken
+abbrev pub IsUnitTaken : List (List ℤ) → ℕ → ℕ → Solver → Bool → Type 0
+IsUnitTaken clauses n at s true = IsTaken clauses n s × IsCovered s.long s.trail (clause_of clauses at)
+IsUnitTaken clauses n at s false = IsTaken clauses n s × IsFalseBy s.trail (clause_of clauses at)
+
+-- so many clauses were taken, or some clause is false
+abbrev pub AreTaken : List (List ℤ) → ℕ → Solver → Option ℕ → Type 0
+AreTaken clauses n s None = IsTaken clauses n s
+AreTaken clauses n s (Some k) = (k < length clauses) × IsTaken clauses 0 s × IsFalseBy s.trail (clause_of clauses k)
 
 -- a literal that is kept, or a marked one among the first of the trail
 abbrev pub IsNeeded : List Bool → List ℤ → List ℤ → ℕ → ℤ → Type 0

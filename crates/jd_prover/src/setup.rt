@@ -1,7 +1,7 @@
 //! What both searches do before any decision: they watch each clause given, or make its only
 //! literal true. A clause that is empty, or whose only literal is false by then, ends the search at
 //! once.
-ghost use Rattle.std.specs.Prelude.{◌≡◌, ℕ, ◌+◌, ◌<◌, ◌^◌, ℤ, false, IfOk, length, List};
+ghost use Rattle.std.specs.Prelude.{◌≡◌, ℕ, ◌+◌, ◌<◌, ◌^◌, ℤ, false, IfOk, MatchBool, length, List};
 ghost use Rattle.std.specs.List.{list_any};
 ghost use Rattle.jd_logic.specs.Literals.{IsLiteral};
 ghost use Rattle.jd_logic.specs.Checking.{is_empty};
@@ -10,7 +10,7 @@ ghost use Rattle.jd_propagate.specs.Hints.{IsFalseBy};
 ghost use Rattle.jd_propagate.specs.Quiet.{IsIn};
 ghost use Rattle.jd_propagate.specs.Passing.{clause_of};
 ghost use Rattle.jd_prover.specs.Preparing.{IsPrepared};
-ghost use Rattle.jd_prover.specs.Solving.{IsTaken, IsTakenBy, AreTaken};
+ghost use Rattle.jd_prover.specs.Solving.{IsTaken, IsTakenBy, IsUnitTaken, AreTaken};
 
 use crate::line::conflict_line;
 use crate::solver::{BOUND, Solver, make_true};
@@ -42,8 +42,7 @@ fn take_unit(clauses: &Clauses, solver: &mut Solver, at: usize, l: i32) -> Resul
     requires among { IsIn (clause_of clauses.now at) l }
     requires alone { (m : ℤ) → IsIn (clause_of clauses.now at) m → m ≡ l }
     requires literal { IsLiteral l }
-    requires taken { IsTaken clauses.now at solver.old }
-    ensures { IfOk result (λ kept. IsTakenBy clauses.now at solver.new kept) }
+    ensures { IfOk result (λ kept. (n : ℕ) → IsTaken clauses.now n solver.old → IsUnitTaken clauses.now n at solver.new kept) }
 {
     if solver.trail.has(l) {
         return Ok(true);
@@ -90,7 +89,30 @@ fn take_clause(
             solver.origins.push(at)?;
             Ok(true)
         }
-        None => take_unit(clauses, solver, at, first),
+        None => {
+            let kept = take_unit(clauses, solver, at, first)?;
+            Ok(kept)
+        }
+    }
+}
+
+/// Takes a clause where it has but one literal. Whether it isn't false.
+fn take_if_unit(clauses: &Clauses, solver: &mut Solver, at: usize) -> Result<bool, NoMemory>
+    requires in_clauses { at < length clauses.now }
+    requires small { length clauses.now < 2 ^ 31 }
+    requires not_empty { is_empty (clause_of clauses.now at) ≡ false }
+    requires taken { IsTaken clauses.now 0 solver.old }
+    ensures taken { IfOk result (λ kept. IsTaken clauses.now 0 solver.new) }
+    ensures conflict { IfOk result (λ kept. MatchBool kept (Unit {0}) (IsFalseBy solver.new.trail (clause_of clauses.now at))) }
+{
+    let clause = clauses.clause(at);
+    let first = first_of(clause);
+    match other_than(clause, first) {
+        Some(_) => Ok(true),
+        None => {
+            let kept = take_unit(clauses, solver, at, first)?;
+            Ok(kept)
+        }
     }
 }
 
@@ -131,6 +153,22 @@ fn has_empty(clauses: &Clauses) -> bool
     false
 }
 
+/// Takes the clauses of one literal, or finds one that is false. They come before all others: where two
+/// contradict each other, no clause is watched for nothing.
+fn take_units(clauses: &Clauses, solver: &mut Solver) -> Result<Option<usize>, NoMemory>
+    requires small { length clauses.now < 2 ^ 31 }
+    requires none_empty { list_any is_empty clauses.now ≡ false }
+    requires begun { IsTaken clauses.now 0 solver.old }
+    ensures { IfOk result (λ found. AreTaken clauses.now 0 solver.new found) }
+{
+    for at in 0..clauses.len() {
+        if !take_if_unit(clauses, solver, at)? {
+            return Ok(Some(at));
+        }
+    }
+    Ok(None)
+}
+
 /// Takes all clauses, or finds one that is false.
 fn take_all(
     alloc: Global,
@@ -140,8 +178,11 @@ fn take_all(
     requires small { length clauses.now < 2 ^ 31 }
     requires none_empty { list_any is_empty clauses.now ≡ false }
     requires begun { IsTaken clauses.now 0 solver.old }
-    ensures { IfOk result (λ found. AreTaken clauses.now solver.new found) }
+    ensures { IfOk result (λ found. AreTaken clauses.now (length clauses.now) solver.new found) }
 {
+    if let Some(at) = take_units(clauses, solver)? {
+        return Ok(Some(at));
+    }
     for at in 0..clauses.len() {
         if !take_clause(alloc, clauses, solver, at)? {
             return Ok(Some(at));
@@ -160,7 +201,7 @@ fn refute_begun(
     requires many { length clauses.now < 2 ^ 31 }
     requires none_empty { list_any is_empty clauses.now ≡ false }
     requires in_clauses { conflict < length clauses.now }
-    requires taken { IsTaken clauses.now conflict taken }
+    requires taken { IsTaken clauses.now 0 taken }
     requires conflict { IsFalseBy taken.trail (clause_of clauses.now conflict) }
     ensures { IfOk result (λ proof. (inputs budget : ℕ) → 0 < budget → IsAnswer clauses.now inputs budget proof) }
 {

@@ -4,14 +4,16 @@
 //! makes a box.
 //!
 //! - a rule of a closure: `Rule::new`; rules in their order: `RuleSet::new`
-//! - functions for closures to call: `constant_and`, `constant_xor`
+//! - functions for closures to call: `constant_and`, `constant_xor`, `alike`
 #![tactic(auto)]
 
+mod arguments;
 mod constants;
 mod first;
 mod rule;
 mod set;
 
+pub use arguments::alike;
 pub use constants::{constant_and, constant_xor};
 pub use rule::Rule;
 pub use set::RuleSet;

@@ -1,5 +1,5 @@
 -- Answers to the questions of a line, so far.
-use Rattle.std.proofs.Common.{◌≡◌, ◌&&◌, ℕ, zero, suc, ◌≤◌, Bool, true, false, cond, List, [], ◌∷◌, ◌++◌, length, take, drop, Some, None, refl, sym, ap, ◌∙◌, subst, arith, length-append}
+use Rattle.std.proofs.Common.{◌≡◌, ◌&&◌, ℕ, zero, suc, ◌≤◌, Bool, true, false, cond, List, [], ◌∷◌, ◌++◌, length, take, drop, Some, None, refl, sym, ap, subst, arith, length-append}
 use Rattle.hp_model.specs.State.{Control, Data}
 use Rattle.hp_model.specs.Questions.{Question, answers_to, holds, means_error, next_question}
 use Rattle.hp_control.specs.SoFar.{AreSoFar}

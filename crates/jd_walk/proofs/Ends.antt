@@ -17,8 +17,10 @@ use Rattle.jd_symbolic.proofs.Standing.{stands_grown}
 use Rattle.jd_difference.specs.Ends.{IsOfRun}
 use Rattle.jd_walk.specs.declared.runs.Position.{Position}
 use Rattle.jd_walk.specs.declared.places.RunEnd.{RunEnd}
+use Rattle.jd_walk.specs.declared.places.Next.{Next}
+use Rattle.jd_walk.specs.declared.places.Next.TheVariants.{Ask, Done}
 use Rattle.jd_walk.specs.NextLine.{nibbles_of}
-use Rattle.jd_walk.specs.Spots.{IsFor, IsAt, IsBegun, IsDoneHere, IsFirst, IsPlaced, IsRun, data_at}
+use Rattle.jd_walk.specs.Spots.{EndsHold, IsFor, IsAt, IsBegun, IsDoneHere, IsFirst, IsPlaced, IsRun, data_at}
 use Rattle.jd_walk.proofs.Answering.{placed-at_line}
 use Rattle.jd_walk.proofs.Turning.{at-line, data-grown, solves-start}
 
@@ -66,7 +68,7 @@ second-run p net path end content at over inside begun left from =
 -- the content of a machine of a run
 pub of-run : (p : Problem) (net : Net) (m : SymMachine) → nibbles_of m ≡ nibble_count p → Stands net m → IsOfRun p net m.content
 of-run p net m memory stands = record {
-  shape = record { size = m.control.size.bits; size_most = m.control.size.at_most_64; fits = stands.fits };
+  shape = record { size = m.control.size.bits; size_least = m.control.size.at_least_one; size_most = m.control.size.at_most_64; fits = stands.fits };
   nibbles = stands.nibbles ∙ ap (λ n. 4 * n) memory;
 }
 
@@ -94,7 +96,7 @@ placed-grown old new path at grows h = record {
 
 pub of-run-grown : (p : Problem) (old new : Net) (content : SymContent) → Grows old new → IsOfRun p old content → IsOfRun p new content
 of-run-grown p old new content grows h = record {
-  shape = record { size = h.shape.size; size_most = h.shape.size_most; fits = fits_grow old new h.shape.size content grows h.shape.fits };
+  shape = record { size = h.shape.size; size_least = h.shape.size_least; size_most = h.shape.size_most; fits = fits_grow old new h.shape.size content grows h.shape.fits };
   nibbles = h.nibbles;
 }
 
@@ -110,4 +112,15 @@ over-grown p second old new path end m n grows stands h = record {
   control = h.control;
   answers = h.answers;
   result = λ s comes. h.result s comes ∙ ap (seen_as end) (sym (data-grown p old new m.control.size.bits m.content s n.inputs grows stands.fits comes.0));
+}
+
+pub ends-grown : (p : Problem) (old new : Net) (path : List Bool) (first : Option RunEnd) (at : Position) (last : Option End) (next : Option Next) → IsFor p old → Grows old new
+    → EndsHold p old path first at last next → EndsHold p new path first at last next
+ends-grown p old new path first at last None n grows h = tt
+ends-grown p old new path first at last (Some (Ask l)) n grows h = tt
+ends-grown p old new path None at last (Some (Done l)) n grows h = absurd h
+ends-grown p old new path (Some first) at last (Some (Done l)) n grows h = record {
+  first_end = first-grown p old new path first n grows h.first_end;
+  second_end = over-grown p true old new path last at.machine n grows h.stands h.second_end;
+  stands = stands_grown old new at.machine grows h.stands;
 }

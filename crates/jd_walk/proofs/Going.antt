@@ -1,5 +1,5 @@
 -- What a walk keeps, by an answer and by going back.
-use Rattle.std.proofs.Common.{◌≡◌, ℕ, zero, suc, ◌+◌, ◌-◌, ◌<◌, ◌≤◌, Bool, true, false, append-nil, List, [], ◌∷◌, ◌++◌, length, map, take, get_or, Option, Some, None, refl, sym, ap, ◌∙◌, subst, arith, length-append, nat_le, cond}
+use Rattle.std.proofs.Common.{◌≡◌, ℕ, zero, suc, ◌+◌, ◌-◌, ◌<◌, ◌≤◌, Bool, true, false, append-nil, List, [], ◌∷◌, ◌++◌, length, map, take, get_or, Option, Some, None, refl, sym, ap, ◌∙◌, subst, arith, length-append, append_assoc, nat_le, cond}
 use Rattle.std.specs.Prelude.{All, AllPairs}
 use Rattle.std.proofs.lemmas.Bool.Decides.{nat_tests}
 use Rattle.std.proofs.lemmas.List.{take-append-le, take-take, get_or_append_left, length-take-le, map-append}
@@ -14,8 +14,8 @@ use Rattle.jd_walk.specs.declared.places.Next.{Next}
 use Rattle.jd_walk.specs.declared.places.Next.TheVariants.{Ask as AskNext}
 use Rattle.jd_walk.specs.declared.places.FirstEnd.{FirstEnd}
 use Rattle.jd_walk.specs.declared.places.Saved.{Saved}
-use Rattle.jd_walk.specs.Spots.{IsSpot, IsRun, IsAskHere, first_at, end_of, back_to, IsWithin, net_at, IsSaved, IsWalk, noes, noes_from}
-use Rattle.jd_walk.specs.Walked.{Walked, back_from}
+use Rattle.jd_walk.specs.Spots.{IsSpot, IsRun, IsAskHere, first_at, end_of, back_to, IsWithin, net_at, IsSaved, IsWalk, no_of, noes, noes_from}
+use Rattle.jd_walk.specs.Walked.{AnsweredNo, Walked, back_at, back_from, first_gates, last_no}
 use Rattle.jd_walk.proofs.Noes.{noes-none, noes-yes, noes-no, last-no, IsLastNo}
 use Rattle.std.proofs.lemmas.List.Quantifiers.{all_pairs_push}
 use Rattle.jd_circuit.specs.Meaning.{opposite}
@@ -24,7 +24,7 @@ use Rattle.jd_walk.proofs.Keeping.{same-spot, saved-pushed}
 
 -- ---- the first run's end
 
-within-end : (k : ℕ) (first : Option FirstEnd) → IsWithin k first → first_at k first ≡ end_of first
+pub within-end : (k : ℕ) (first : Option FirstEnd) → IsWithin k first → first_at k first ≡ end_of first
 within-end k None h = refl
 within-end k (Some f) h = by_test (nat_le f.path k) refl
   where
@@ -32,7 +32,7 @@ within-end k (Some f) h = by_test (nat_le f.path k) refl
     by_test true e = refl
     by_test false e = absurd (let gt : k < f.path = grind (arith, nat_tests) in omega (arith, gt, h))
 
-end-back : (k : ℕ) (first : Option FirstEnd) → first_at k first ≡ end_of (back_to k first)
+pub end-back : (k : ℕ) (first : Option FirstEnd) → first_at k first ≡ end_of (back_to k first)
 end-back k None = refl
 end-back k (Some f) = by_test (nat_le f.path k)
   where
@@ -49,7 +49,7 @@ within-back k (Some f) = by_test (nat_le f.path k) refl
     by_test false e = tt
 
 -- a place before one to which the walk goes back
-before-back : (j k : ℕ) (first : Option FirstEnd) → j < k → first_at j first ≡ first_at j (back_to k first)
+pub before-back : (j k : ℕ) (first : Option FirstEnd) → j < k → first_at j first ≡ first_at j (back_to k first)
 before-back j k None h = refl
 before-back j k (Some f) h = by_test (nat_le f.path k) refl
   where
@@ -70,10 +70,10 @@ within-more : (k : ℕ) (first : Option FirstEnd) → IsWithin k first → IsWit
 within-more k None h = tt
 within-more k (Some f) h = omega (arith, h)
 
-All-mapped : {X : Type 0} (P Q : X → Type 0) (xs : List X) → ((x : X) → P x → Q x) → All P xs → All Q xs
+pub All-mapped : {X : Type 0} (P Q : X → Type 0) (xs : List X) → ((x : X) → P x → Q x) → All P xs → All Q xs
 All-mapped P Q xs f all k d inside = f _ (all k d inside)
 
-length-push : (xs : List Bool) (b : Bool) → length (xs ++ b ∷ []) ≡ suc (length xs)
+pub length-push : (xs : List Bool) (b : Bool) → length (xs ++ b ∷ []) ≡ suc (length xs)
 length-push xs b = length-append xs (b ∷ []) ∙ omega arith
 
 pub walk-yes : (p : Problem) (net : Net) (path : List Bool) (assumed guards : List Lit) (saved : List Saved) (first : Option FirstEnd) (at : Position) (l : Lit)
@@ -111,10 +111,10 @@ pairs-last R xs x all k d inside =
     subst (λ z. R (get_or xs k d) z) (get_or-append_seam xs x [] d)
     (subst (λ y. R y (get_or (xs ++ x ∷ []) (length xs) d)) (get_or_append_left xs (x ∷ []) d k inside) (all k (length xs) d inside (omega (arith, length-append xs (x ∷ [])))))
 
-All-front : {X : Type 0} (P : X → Type 0) (xs ys : List X) → All P (xs ++ ys) → All P xs
+pub All-front : {X : Type 0} (P : X → Type 0) (xs ys : List X) → All P (xs ++ ys) → All P xs
 All-front P xs ys all k d inside = subst P (get_or_append_left xs ys d k inside) (all k d (omega (arith, inside, length-append xs ys)))
 
-All-last : {X : Type 0} (P : X → Type 0) (xs : List X) (x : X) → All P (xs ++ x ∷ []) → P x
+pub All-last : {X : Type 0} (P : X → Type 0) (xs : List X) (x : X) → All P (xs ++ x ∷ []) → P x
 All-last P xs x all = subst P (get_or-append_seam xs x [] x) (all (length xs) x (omega (arith, length-append xs (x ∷ []))))
 
 All-map-back : {X Y : Type 0} (P : Y → Type 0) (f : X → Y) (xs : List X) → All P (map f xs) → All (λ x. P (f x)) xs
@@ -143,17 +143,31 @@ saved-back p net path assumed guards first k mark g s count inside below before 
       asked = both.2;
     }
 
+-- the places before the last no
+front-noes : (path : List Bool) (saved : List Saved) (s : Saved) → map (λ s. s.at) (saved ++ s ∷ []) ≡ noes path → noes (take s.at path) ≡ map (λ s. s.at) saved
+front-noes path saved s at_noes =
+    let no : IsLastNo 0 path (map (λ s. s.at) saved) s.at = last-no 0 path (map (λ s. s.at) saved) s.at (sym at_noes ∙ map-append (λ s. s.at) saved (s ∷ [])) in
+    let front : s.at - 0 ≡ s.at = omega arith in
+    ap (λ k. noes (take k path)) (sym front) ∙ no.noes
+
+earlier : (path : List Bool) (saved : List Saved) (s : Saved) → s.at < length path → noes (take s.at path) ≡ map (λ s. s.at) saved → All (λ x. x.at < s.at) saved
+earlier path saved s inside noes_is =
+    All-map-back (λ k. k < s.at) (λ x. x.at) saved (subst (All (λ k. k < s.at)) noes_is
+    (All-mapped (λ k. k < 0 + length (take s.at path)) (λ k. k < s.at) (noes (take s.at path)) (λ k less. omega (arith, less, length-take-le s.at path (omega (arith, inside)))) (noes-below 0 (take s.at path))))
+
+pub saved-before : (p : Problem) (net : Net) (path : List Bool) (assumed guards : List Lit) (saved : List Saved) (s : Saved) (first : Option FirstEnd) (at : Position) (next : Option Next)
+    → IsWalk p net path assumed guards (saved ++ s ∷ []) first at next → All (λ x. x.at < s.at) saved
+saved-before p net path assumed guards saved s first at next h =
+    let last : IsSaved p net path assumed guards first s = All-last (IsSaved p net path assumed guards first) saved s h.kept in
+    earlier path saved s last.inside (front-noes path saved s h.at_noes)
+
 pub walk-back : (p : Problem) (net : Net) (path : List Bool) (assumed guards : List Lit) (saved : List Saved) (s : Saved) (first : Option FirstEnd) (at : Position) (next : Option Next)
     → IsWalk p net path assumed guards (saved ++ s ∷ []) first at next
     → IsWalk p (net_at net s.mark.gates) (take s.at path ++ true ∷ []) assumed (take s.at guards ++ s.ask ∷ []) saved (back_to s.at first) s.position None
 walk-back p net path assumed guards saved s first at next h =
     let last : IsSaved p net path assumed guards first s = All-last (IsSaved p net path assumed guards first) saved s h.kept in
-    let no : IsLastNo 0 path (map (λ s. s.at) saved) s.at = last-no 0 path (map (λ s. s.at) saved) s.at (sym h.at_noes ∙ map-append (λ s. s.at) saved (s ∷ [])) in
-    let front : s.at - 0 ≡ s.at = omega arith in
-    let noes_is : noes (take s.at path) ≡ map (λ s. s.at) saved = ap (λ k. noes (take k path)) (sym front) ∙ no.noes in
-    let before : All (λ x. x.at < s.at) saved =
-    All-map-back (λ k. k < s.at) (λ x. x.at) saved (subst (All (λ k. k < s.at)) noes_is
-    (All-mapped (λ k. k < 0 + length (take s.at path)) (λ k. k < s.at) (noes (take s.at path)) (λ k less. omega (arith, less, length-take-le s.at path (omega (arith, last.inside)))) (noes-below 0 (take s.at path)))) in
+    let noes_is = front-noes path saved s h.at_noes in
+    let before = earlier path saved s last.inside noes_is in
     let kept : All (IsSaved p net path assumed guards first) saved = All-front (IsSaved p net path assumed guards first) saved (s ∷ []) h.kept in
     let marks : All (λ x. x.mark.gates ≤ s.mark.gates) saved = pairs-last (λ a b. a.mark.gates ≤ b.mark.gates) saved s h.marks in
     record {
@@ -200,11 +214,52 @@ walk-back-is p net new path assumed guards all saved s first at next path_then g
     (subst (λ x. IsWalk p x (take s.at path ++ true ∷ []) assumed (take s.at guards ++ s.ask ∷ []) saved (back_to s.at first) s.position None) nets
     (walk-back p net path assumed guards saved s first at next (subst (λ x. IsWalk p net path assumed guards x first at next) items h)))))
 
-pub back-none : (old new : Walked) → next_path old.path ≡ None → back_from old new ≡ old
-back-none old new e = ap (λ o. elim o as (λ _. Walked) [ Some path ↦ record old { net = new.net; path = path; guards = new.guards; next = None } | None ↦ old ]) e
+pub back-none : (w : Walked) → next_path w.path ≡ None → back_from w ≡ w
+back-none w e = ap (λ o. elim o as (λ _. Walked) [ Some path ↦ back_at w path | None ↦ w ]) e
 
-pub back-some : (old new : Walked) (path : List Bool) → next_path old.path ≡ Some path → back_from old new ≡ record old { net = new.net; path = path; guards = new.guards; next = None }
-back-some old new path e = ap (λ o. elim o as (λ _. Walked) [ Some path ↦ record old { net = new.net; path = path; guards = new.guards; next = None } | None ↦ old ]) e
+pub back-some : (w : Walked) (path : List Bool) → next_path w.path ≡ Some path → back_from w ≡ back_at w path
+back-some w path e = ap (λ o. elim o as (λ _. Walked) [ Some path ↦ back_at w path | None ↦ w ]) e
+
+last-pushed : (before : List AnsweredNo) (n : AnsweredNo) → last_no (before ++ n ∷ []) ≡ n
+last-pushed [] n = refl
+last-pushed (x ∷ []) n = refl
+last-pushed (x ∷ y ∷ rest) n = last-pushed (y ∷ rest) n
+
+front-pushed : (before : List AnsweredNo) (n : AnsweredNo) → take (length (before ++ n ∷ []) - 1) (before ++ n ∷ []) ≡ before
+front-pushed before n =
+    let count : length (before ++ n ∷ []) - 1 ≡ length before = omega (arith, length-append before (n ∷ [])) in
+    ap (λ k. take k (before ++ n ∷ [])) count ∙ take-append_seam before (n ∷ [])
+
+take-beside : {X : Type 0} (xs ys : List X) (k : ℕ) → take (length xs + k) (xs ++ ys) ≡ xs ++ take k ys
+take-beside [] ys k = let same : 0 + k ≡ k = omega arith in ap (λ n. take n ys) same
+take-beside (x ∷ xs) ys k =
+    let count : length (x ∷ xs) + k ≡ suc (length xs + k) = omega arith in
+    ap (λ n. take n (x ∷ (xs ++ ys))) count ∙ ap (λ r. x ∷ r) (take-beside xs ys k)
+
+-- a walk that went back, by its last question answered with no, its other guards and the questions before
+abbrev BackWith : Problem → Net → List Bool → Bool → AnsweredNo → List Lit → List AnsweredNo → Walked
+BackWith p net path spent last guards before =
+    record { problem = p; net = first_gates net last.gates; path = path; guards = guards ++ last.ask ∷ []; next = None; noes = before; spent = spent }
+
+-- the walk at its last question answered with no
+pub back-at : (p : Problem) (net : Net) (path : List Bool) (assumed guards : List Lit) (next : Option Next) (saved : List Saved) (s : Saved) (spent : Bool) → length guards ≡ length path → s.at < length path
+    → back_at (record { problem = p; net = net; path = path; guards = assumed ++ guards; next = next; noes = map no_of (saved ++ s ∷ []); spent = spent }) (take s.at path ++ true ∷ [])
+    ≡ record { problem = p; net = net_at net s.mark.gates; path = take s.at path ++ true ∷ []; guards = assumed ++ (take s.at guards ++ s.ask ∷ []); next = None; noes = map no_of saved; spent = spent }
+back-at p net path assumed guards next saved s spent count inside =
+    let noes_are : map no_of (saved ++ s ∷ []) ≡ map no_of saved ++ no_of s ∷ [] = map-append no_of saved (s ∷ []) in
+    let place : length (assumed ++ guards) - length path + (length (take s.at path ++ true ∷ []) - 1) ≡ length assumed + s.at =
+    omega (arith, length-append assumed guards, count, length-push (take s.at path) true, length-take-le s.at path (omega (arith, inside))) in
+    by_parts (take s.at path ++ true ∷ []) (last_no (map no_of (saved ++ s ∷ []))) (take (length (assumed ++ guards) - length path + (length (take s.at path ++ true ∷ []) - 1)) (assumed ++ guards))
+    (take (length (map no_of (saved ++ s ∷ [])) - 1) (map no_of (saved ++ s ∷ [])))
+    (ap last_no noes_are ∙ last-pushed (map no_of saved) (no_of s))
+    (ap (λ k. take k (assumed ++ guards)) place ∙ take-beside assumed guards s.at)
+    (ap (λ (ns : List AnsweredNo). take (length ns - 1) ns) noes_are ∙ front-pushed (map no_of saved) (no_of s))
+  where
+    by_parts : (then : List Bool) (last : AnsweredNo) (ls : List Lit) (before : List AnsweredNo) → last ≡ no_of s → ls ≡ assumed ++ take s.at guards → before ≡ map no_of saved
+        → BackWith p net then spent last ls before ≡ record { problem = p; net = net_at net s.mark.gates; path = then; guards = assumed ++ (take s.at guards ++ s.ask ∷ []); next = None; noes = map no_of saved; spent = spent }
+    by_parts then last ls before e1 e2 e3 =
+        ap (λ n. BackWith p net then spent n ls before) e1 ∙ ap (λ gs. BackWith p net then spent (no_of s) gs before) e2 ∙ ap (BackWith p net then spent (no_of s) (assumed ++ take s.at guards)) e3
+        ∙ ap (λ gs. record { problem = p; net = net_at net s.mark.gates; path = then; guards = gs; next = None; noes = map no_of saved; spent = spent }) (append_assoc assumed (take s.at guards) (s.ask ∷ []))
 
 -- ---- an answer of no
 

@@ -1,5 +1,5 @@
 -- Questions that were answered with no, as the walk goes on and back.
-use Rattle.std.proofs.Common.{◌≡◌, ℕ, ◌+◌, ◌-◌, ◌<◌, ◌≤◌, Bool, true, false, List, [], ◌∷◌, ◌++◌, length, take, Option, Some, None, refl, sym, ap, ◌∙◌, subst, arith, length-append, nat_le, cond}
+use Rattle.std.proofs.Common.{◌≡◌, ℕ, ◌<◌, ◌≤◌, Bool, true, false, List, [], ◌∷◌, ◌++◌, length, take, Option, Some, None, refl, sym, ap, ◌∙◌, subst, arith, length-append, nat_le, cond}
 use Rattle.std.proofs.lemmas.Bool.Decides.{nat_tests}
 use Rattle.std.proofs.lemmas.List.{take-append-le, take-take}
 use Rattle.jd_circuit.specs.declared.literals.Lit.{Lit}
@@ -39,7 +39,7 @@ saved-grown p old new path assumed guards first s grows h =
     record { inside = h.inside; mark = omega (arith, h.mark, grows.more); spot = both.0; run = both.1; asked = both.2 }
 
 -- the first run's end comes after each of them
-later-end : (k : ℕ) (f : FirstEnd) → k < f.path → first_at k (Some f) ≡ None
+pub later-end : (k : ℕ) (f : FirstEnd) → k < f.path → first_at k (Some f) ≡ None
 later-end k f h = by_test (nat_le f.path k) refl
   where
     by_test : (b : Bool) → nat_le f.path k ≡ b → cond b (Some f.run) None ≡ None

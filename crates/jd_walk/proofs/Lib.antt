@@ -7,4 +7,6 @@ pub mod Keeping
 pub mod Going
 pub mod Ends
 pub mod Nexts
+pub mod Rooms
 pub mod Leaving
+pub mod Differing

@@ -7,7 +7,7 @@ use Rattle.hp_model.specs.declared.Stop.{Stop}
 use Rattle.hp_model.specs.declared.Stop.TheVariants.{Go, Ended}
 use Rattle.hp_model.specs.Operations.{Operation}
 use Rattle.hp_model.specs.State.{Control, register_nibbles}
-use Rattle.hp_model.specs.Questions.{IsComplete, answers, are_complete}
+use Rattle.hp_model.specs.Questions.{IsComplete, answers, are_complete, asks, next_question}
 use Rattle.hp_model.specs.ControlStep.{control_step}
 use Rattle.hp_model.specs.DataStep.{data_step}
 use Rattle.hp_model.specs.Run.{advanced, at_line_number, next_operation, restored}
@@ -63,6 +63,13 @@ asks-of-line net m line op given asked following next a =
     asks-from net m given asked
     (subst (λ c. literals.Asks net c m.content (next_operation (state_of m)) given asked) (advanced-is m line following)
     (subst (λ o. literals.Asks net (state_of (at_line line m)) m.content o given asked) next a))
+
+-- the gates that the literal of its question may take
+pub gates-of-line : (m : SymMachine) (line : ℕ) (op : Operation) (given : List Bool) (old new : ℕ) → IsFollowing m line → op ≡ next_operation (state_of m)
+    → new ≤ old + literals.asked_gates (asks (state_of (at_line line m)) op given) → new ≤ old + literals.asked_gates (next_question (line_questions (state_of m)) given)
+gates-of-line m line op given old new following next more =
+    subst (λ c. new ≤ old + literals.asked_gates (asks c (next_operation (state_of m)) given)) (advanced-is m line following)
+    (subst (λ o. new ≤ old + literals.asked_gates (asks (state_of (at_line line m)) o given)) next more)
 
 -- ---- what the line does
 

@@ -26,7 +26,7 @@ use Rattle.jd_walk.specs.declared.places.Next.{Next}
 use Rattle.jd_walk.specs.declared.places.Next.TheVariants.{Ask, Done}
 use Rattle.jd_walk.specs.declared.places.Saved.{Saved}
 use Rattle.jd_walk.specs.Spots.{IsFor, IsBegun, data_at, IsSpot, IsRun, IsWithin, NextHolds, FirstGoes, IsSaved, IsWalk, end_of}
-use Rattle.jd_walk.specs.Walked.{NextIs, is_done}
+use Rattle.jd_walk.specs.Walked.{AnsweredNo, AreAssumptions, NextIs, is_done}
 use Rattle.jd_walk.proofs.Standing.{spot-grown}
 use Rattle.jd_walk.proofs.Turning.{for-grown, solves-start}
 use Rattle.jd_walk.proofs.Keeping.{saved-grown, saved-over}
@@ -58,18 +58,18 @@ walk-next p old new path assumed guards saved first now before at n h grows goes
 }
 
 -- a start on whose bits the guards are true comes here
-comes-here : (p : Problem) (net : Net) (path : List Bool) (assumed guards : List Lit) (s : Data) → IsSpot p net path assumed guards → in_range p s ≡ true
+pub comes-here : (p : Problem) (net : Net) (path : List Bool) (assumed guards : List Lit) (s : Data) → IsSpot p net path assumed guards → in_range p s ≡ true
     → all_hold net (assumed ++ guards) (bits p s) ≡ true → Comes p path s
 comes-here p net path assumed guards s h ranged held =
     (ranged, right-part (allows p s) (begins path (answers_of_start p s)) (sym (h.guarded s ranged) ∙ held))
 
-pub next-is : (p : Problem) (net : Net) (path : List Bool) (assumed guards : List Lit) (at : Position) (next : Option Next) (spent : Bool) (n : Next) → IsSpot p net path assumed guards → NextHolds p net path at (Some n)
-    → NextIs (record { problem = p; net = net; path = path; guards = assumed ++ guards; next = next; spent = spent }) n
-next-is p net path assumed guards at next spent (Ask l) spot h = record {
+pub next-is : (p : Problem) (net : Net) (path : List Bool) (assumed guards : List Lit) (at : Position) (next : Option Next) (noes : List AnsweredNo) (spent : Bool) (n : Next) → IsSpot p net path assumed guards → NextHolds p net path at (Some n)
+    → NextIs (record { problem = p; net = net; path = path; guards = assumed ++ guards; next = next; noes = noes; spent = spent }) n
+next-is p net path assumed guards at next noes spent (Ask l) spot h = record {
   asks = h.ask.asks;
   means = λ s ranged held. sym (h.ask.means s (comes-here p net path assumed guards s spot ranged held));
 }
-next-is p net path assumed guards at next spent (Done l) spot h = record {
+next-is p net path assumed guards at next noes spent (Done l) spot h = record {
   over = h.over;
   means = λ s ranged held. h.differs s (comes-here p net path assumed guards s spot ranged held);
 }
@@ -112,6 +112,15 @@ begun-guarded p net assumed m n wired same means s ranged =
     and-both true true e = refl
     and-both true false e = refl
     and-both false b e = absurd (false≢true e)
+
+-- the guards of a new walk are the assumptions, one by one
+pub begun-assumed : (p : Problem) (net : Net) (path : List Bool) (assumed guards : List Lit) (next : Option Next) (noes : List AnsweredNo) (spent : Bool) (m : SymMachine) → IsFor p net → IsWired net.inputs net.gates
+    → IsBegun p false net m → Means p net m assumed → guards ≡ []
+    → AreAssumptions (record { problem = p; net = net; path = path; guards = assumed ++ guards; next = next; noes = noes; spent = spent })
+begun-assumed p net path assumed guards next noes spent m n wired begun means none s ranged =
+    let val = val_of net (bits p s) in
+    ap (λ gs. map (lit_value val) (assumed ++ gs)) none ∙ ap (map (lit_value val)) (append-nil assumed)
+    ∙ means val (solves-start p net s n.inputs wired ranged) ∙ ap (λ d. map (λ a. holds a d) p.assumed) (begun.means s ranged)
 
 pub walk-begun : (p : Problem) (old net : Net) (m : SymMachine) (path : List Bool) (assumed guards : List Lit) (saved : List Saved) (at : Position) → IsFor p old → Grows old net → IsWired net.inputs net.gates
     → IsBegun p false old m → Inside (variables net) assumed

@@ -1,5 +1,5 @@
 -- A turn of a run: a question, a line done, or the end.
-use Rattle.std.proofs.Common.{◌≡◌, ℕ, suc, ◌+◌, ◌-◌, ◌<◌, Bool, true, false, not, List, [], ◌++◌, length, take, drop, Option, Some, None, refl, sym, ap, ◌∙◌, subst, arith, length-drop}
+use Rattle.std.proofs.Common.{◌≡◌, ℕ, suc, ◌-◌, ◌<◌, Bool, true, false, not, List, [], ◌++◌, length, take, drop, Option, Some, None, refl, sym, ap, ◌∙◌, subst, arith, length-drop}
 use Rattle.std.specs.Bool.{beq}
 use Rattle.std.proofs.Math.Seq.{take-length}
 use Rattle.hp_model.specs.declared.End.{End}

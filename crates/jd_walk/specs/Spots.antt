@@ -1,10 +1,11 @@
 -- Where a walk stands.
 use Rattle.std.specs.Prelude.{◌≡◌, ◌⊎◌, ◌&&◌, ℕ, ◌<◌, ◌≤◌, suc, not, nat_le, if◌then◌else◌, Bool, true, false, List, [], ◌∷◌, ◌++◌, length, map, take, drop, is_some, Option, Some, None, All, AllPairs}
+use Rattle.hp_model.specs.declared.End.{End}
 use Rattle.hp_model.specs.State.{Control, Data}
 use Rattle.hp_model.specs.Questions.{Question, next_question}
 use Rattle.hp_control.specs.SoFar.{AreSoFar}
 use Rattle.jd_circuit.specs.declared.literals.Lit.{Lit}
-use Rattle.jd_circuit.specs.Net.{Net, IsLit, Grows, variables, eval}
+use Rattle.jd_circuit.specs.Net.{Net, IsLit, variables, eval}
 use Rattle.jd_model.specs.Problems.{Problem, free_bits, bits, nibble_count}
 use Rattle.jd_model.specs.Seen.{agree, first_control, seen}
 use Rattle.jd_model.specs.Problems.{in_range, allows}
@@ -25,7 +26,7 @@ use Rattle.jd_walk.specs.declared.places.RunEnd.{RunEnd}
 use Rattle.jd_walk.specs.declared.places.FirstEnd.{FirstEnd}
 use Rattle.jd_walk.specs.declared.places.Saved.{Saved}
 use Rattle.jd_walk.specs.NextLine.{StandsAtLine, nibbles_of}
-use Rattle.jd_walk.specs.Walked.{is_done}
+use Rattle.jd_walk.specs.Walked.{AnsweredNo, is_done}
 
 -- a circuit whose inputs are the free bits of a start
 pub record IsFor (p : Problem) (net : Net) : Type 0 where
@@ -67,13 +68,6 @@ abbrev pub StandsAfter : Net → List Bool → Position → Option Reach → Typ
 StandsAfter net path at None = IsPlaced net path at
 StandsAfter net path at (Some (Ask l)) = IsPlaced net path at
 StandsAfter net path at (Some (Over end)) = Stands net at.machine
-
--- what a run keeps from turn to turn
-pub record IsGoing (old new : Net) (path : List Bool) (before now : Position) : Type 0 where
-  pub grows : Grows old new
-  pub placed : IsPlaced new path now
-  pub memory : nibbles_of now.machine ≡ nibbles_of before.machine
-  pub at : (p : Problem) (second : Bool) → IsFor p old → IsAt p second old path before → IsAt p second new path now
 
 -- the run goes on, or has come to where it stops
 abbrev pub IsTurned : Problem → Bool → Net → List Bool → Position → Option Reach → Type 0
@@ -131,6 +125,22 @@ NextHolds p net path at None = Unit {0}
 NextHolds p net path at (Some (AskNext l)) = IsAskHere p net path at l
 NextHolds p net path at (Some (DoneNext l)) = IsDoneHere p net path l
 
+-- both runs are over: how the first ended, and how the second did, whose machine is still there
+pub record AreOver (p : Problem) (net : Net) (path : List Bool) (first : RunEnd) (at : Position) (last : Option End) : Type 0 where
+  pub first_end : IsFirst p net path first
+  pub second_end : IsOver p true path last (data_at p net at.machine.content)
+  pub stands : Stands net at.machine
+
+abbrev pub AreOverAt : Problem → Net → List Bool → Option RunEnd → Position → Option End → Type 0
+AreOverAt p net path None at last = ⊥
+AreOverAt p net path (Some first) at last = AreOver p net path first at last
+
+-- they are where `next` said so
+abbrev pub EndsHold : Problem → Net → List Bool → Option RunEnd → Position → Option End → Option Next → Type 0
+EndsHold p net path first at last None = Unit {0}
+EndsHold p net path first at last (Some (AskNext l)) = Unit {0}
+EndsHold p net path first at last (Some (DoneNext l)) = AreOverAt p net path first at last
+
 -- ---- questions answered with no
 
 -- the places of the noes of a path, counted from a number on
@@ -148,6 +158,10 @@ first_at k (Some f) = if nat_le f.path k then Some f.run else None
 
 abbrev pub net_at : Net → ℕ → Net
 net_at net mark = record { inputs = net.inputs; gates = take mark net.gates }
+
+-- how many gates stood at a question answered with no, and its literal
+abbrev pub no_of : Saved → AnsweredNo
+no_of s = record { gates = s.mark.gates; ask = s.ask }
 
 -- a question answered with no, with the walk as it stood there
 pub record IsSaved (p : Problem) (net : Net) (path : List Bool) (assumed guards : List Lit) (first : Option FirstEnd) (s : Saved) : Type 0 where

@@ -1,6 +1,6 @@
--- A walk as contracts see it: its problem, its circuit, its path with the guards, what `next` said there, and whether it
--- is spent.
-use Rattle.std.specs.Prelude.{◌≡◌, Bool, true, false, not, List, [], ◌∷◌, ◌++◌, Option, Some, None}
+-- A walk as contracts see it: its problem, its circuit, its path with the guards, what `next` said there, the questions
+-- answered with no, and whether it is spent.
+use Rattle.std.specs.Prelude.{◌≡◌, ℕ, ◌+◌, ◌-◌, ◌*◌, ◌^◌, Bool, true, false, not, List, [], ◌∷◌, ◌++◌, length, map, take, Option, Some, None}
 use Rattle.hp_model.specs.State.{Data}
 use Rattle.jd_circuit.specs.declared.literals.Lit.{Lit}
 use Rattle.jd_circuit.specs.declared.literals.Lit.TheVariants.{Const}
@@ -8,11 +8,17 @@ use Rattle.jd_circuit.specs.Meaning.{opposite}
 use Rattle.jd_circuit.specs.Net.{Net, eval}
 use Rattle.jd_model.specs.Problems.{Problem, bits}
 use Rattle.jd_model.specs.Seen.{agree}
+use Rattle.jd_model.specs.Assumptions.{holds}
 use Rattle.jd_model.specs.Problems.{in_range}
 use Rattle.jd_books.specs.Leaves.{all_hold}
 use Rattle.jd_books.specs.Paths.{AsksAfter, OverAfter, answers_of_start, begins, next_path}
 use Rattle.jd_walk.specs.declared.places.Next.{Next}
 use Rattle.jd_walk.specs.declared.places.Next.TheVariants.{Ask, Done}
+
+-- a question answered with no: how many gates stood there, and its literal
+pub record AnsweredNo : Type 0 where
+  pub gates : ℕ
+  pub ask : Lit
 
 pub record Walked : Type 0 where
   pub problem : Problem
@@ -20,6 +26,7 @@ pub record Walked : Type 0 where
   pub path : List Bool
   pub guards : List Lit
   pub next : Option Next
+  pub noes : List AnsweredNo
   pub spent : Bool
 
 -- what follows of each start in range on whose bits the guards are true
@@ -60,13 +67,58 @@ abbrev pub guard_of : Lit → Bool → Lit
 guard_of l true = l
 guard_of l false = opposite l
 
+-- the questions answered with no, after an answer
+abbrev pub noes_after : Bool → List AnsweredNo → AnsweredNo → List AnsweredNo
+noes_after true before now = before
+noes_after false before now = before ++ now ∷ []
+
 -- the walk after an answer
 abbrev pub answered : Walked → Bool → Walked
-answered w a = record w { path = w.path ++ a ∷ []; guards = w.guards ++ guard_of (asked_literal w.next) a ∷ []; next = None }
+answered w a = record w {
+  path = w.path ++ a ∷ [];
+  guards = w.guards ++ guard_of (asked_literal w.next) a ∷ [];
+  next = None;
+  noes = noes_after a w.noes (record { gates = length w.net.gates; ask = asked_literal w.next });
+}
 
--- the walk after going back, with the circuit and the guards of the new place
-abbrev pub back_from : Walked → Walked → Walked
-back_from old new = elim (next_path old.path) [
-  | Some path ↦ record old { net = new.net; path = path; guards = new.guards; next = None }
-  | None ↦ old
+-- the last question answered with no
+abbrev pub last_no : List AnsweredNo → AnsweredNo
+last_no [] = record { gates = 0; ask = Const true }
+last_no (first ∷ []) = first
+last_no (first ∷ next ∷ rest) = last_no (next ∷ rest)
+
+-- the circuit with its first gates alone
+abbrev pub first_gates : Net → ℕ → Net
+first_gates net count = record { inputs = net.inputs; gates = take count net.gates }
+
+-- how many guards belong to the assumptions
+abbrev pub assumed_guards : Walked → ℕ
+assumed_guards w = length w.guards - length w.path
+
+-- the walk back at its last question answered with no, where this path ends with yes: the gates and the guards that stood
+-- when it was asked, and the guard of yes
+abbrev pub back_at : Walked → List Bool → Walked
+back_at w path = record w {
+  net = first_gates w.net (last_no w.noes).gates;
+  path = path;
+  guards = take (assumed_guards w + (length path - 1)) w.guards ++ (last_no w.noes).ask ∷ [];
+  next = None;
+  noes = take (length w.noes - 1) w.noes;
+}
+
+-- the walk after going back
+abbrev pub back_from : Walked → Walked
+back_from w = elim (next_path w.path) [
+  | Some path ↦ back_at w path
+  | None ↦ w
 ]
+
+-- the guards of a new walk: one for each assumption of its problem, in their order, which means that it holds
+abbrev pub AreAssumptions : Walked → Type 0
+AreAssumptions w = (s : Data) → in_range w.problem s ≡ true → map (eval w.net (bits w.problem s)) w.guards ≡ map (λ a. holds a s) w.problem.assumed
+
+-- ---- gates
+
+-- the gates that assumptions, both runs line by line, and the difference of both ends may take
+abbrev pub most_gates : Problem → ℕ
+most_gates p = (2 * p.steps + 1) * 2 ^ 18 + 2 ^ 14

@@ -1,10 +1,10 @@
 //! The calls by which the judge and the check drive a walk. A question answered with no is kept
 //! with its machine and a mark of the circuit, so that going back takes no memory and adds no gate.
-ghost use Rattle.std.specs.Prelude.{◌≡◌, ◌<◌, ◌∷◌, ◌++◌, [], false, true, Some, Ok, OnOk, OnErr, IfOk, length, take, is_some};
+ghost use Rattle.std.specs.Prelude.{◌≡◌, ◌<◌, ◌≤◌, ◌∷◌, ◌++◌, [], false, true, Some, None, Ok, OnOk, OnErr, IfOk, length, take, is_some};
 ghost use Rattle.jd_circuit.specs.Net.{Grows};
 ghost use Rattle.jd_books.specs.Paths.{next_path};
 ghost use Rattle.jd_walk.specs.Spots.{back_to};
-ghost use Rattle.jd_walk.specs.Walked.{NextIs, answered, back_from, has_asked};
+ghost use Rattle.jd_walk.specs.Walked.{NextIs, answered, back_from, has_asked, most_gates};
 ghost use Rattle.jd_walk.specs.declared.places.Next.{Next};
 ghost use Rattle.jd_walk.specs.declared.places.Next.TheVariants.{Ask};
 
@@ -69,11 +69,12 @@ fn save(
 }
 
 impl<'r, W: Rewrite> Walk<'r, W> {
-    /// Cuts the path back to its last no, which becomes yes. False exactly where the path has no no,
-    /// and then nothing changes. Takes no memory.
+    /// Cuts the path back to its last no, which becomes yes, and the circuit and the guards to those
+    /// that stood there. False exactly where the path has no no, and then nothing changes. Takes no
+    /// memory.
     pub fn back(&mut self) -> bool
         requires unspent { self.old.spent ≡ false }
-        ensures walk { self.new ≡ back_from self.old self.new }
+        ensures walk { self.new ≡ back_from self.old }
         ensures back { result ≡ is_some (next_path self.old.path) }
     {
         let Some(saved) = self.saved.pop() else {
@@ -155,11 +156,12 @@ impl<'r, W: Rewrite> Walk<'r, W> {
     }
 
     /// Goes on to the next question, or to the place where both runs have ended or are late. A second
-    /// call in the same place says the same and adds no gate. After NoMemory the walk is spent. A
-    /// circuit of 2^29 gates has no room for those of another line: that too is answered by NoMemory.
+    /// call in the same place says the same and adds no gate. After NoMemory the walk is spent. There
+    /// are fewer than 2^29 gates after it, so that NoMemory never comes of their number.
     pub fn next(&mut self) -> Result<Next, NoMemory>
         ensures walk { IfOk result (λ n. self.new ≡ record self.old { net = self.new.net; next = Some n }) }
         ensures grows { OnOk result (Grows self.old.net self.new.net) }
+        ensures few { OnOk result (self.old.next ≡ None → length self.new.net.gates ≤ most_gates self.new.problem) }
         ensures said { IfOk result (NextIs self.new) }
         ensures unspent { OnOk result (self.old.spent ≡ false) }
         ensures again { (n : Next) → self.old.spent ≡ false → self.old.next ≡ Some n → (result ≡ Ok n) × (self.new ≡ self.old) }
@@ -179,6 +181,7 @@ impl<'r, W: Rewrite> Walk<'r, W> {
             self.path.as_slice(),
             &mut self.first,
             &mut self.at,
+            &mut self.last,
         )?;
         self.next = Some(next);
         self.spent = false;

@@ -1,6 +1,6 @@
 //! The judge and the check refute leaves, not walks, so here a path becomes one: guards of the
 //! assumptions before those of the answers, and the cone alone of the circuit.
-ghost use Rattle.std.specs.Prelude.{◌≡◌, ◌<◌, ◌^◌, ◌++◌, false, true, length, IfOk};
+ghost use Rattle.std.specs.Prelude.{◌≡◌, ◌++◌, false, true, IfOk};
 ghost use Rattle.jd_trees.specs.declared.Kind.TheVariants.{Whole};
 ghost use Rattle.jd_leaves.specs.Views.{leaf_of};
 ghost use Rattle.jd_walk.specs.Leaves.{diff_at, IsWholeLeafOf, IsLeafOf};
@@ -8,7 +8,7 @@ ghost use Rattle.jd_walk.specs.Walked.{is_done};
 
 use crate::places::Next;
 use crate::walks::Walk;
-use jd_circuit::{Gates, Lit, NoMemory, Rewrite};
+use jd_circuit::{Lit, NoMemory, Rewrite};
 use jd_cones::cone;
 use jd_leaves::{Guards, Kind, Leaf, Path};
 use std::alloc::Global;
@@ -28,23 +28,12 @@ fn diff_of(next: Option<Next>, kind: Kind) -> Lit
 }
 
 /// The guards of the assumptions and then those of the answers.
-fn joined_guards(alloc: Global, assumed: &[Lit], guards: &[Lit]) -> Result<Guards, NoMemory>
+pub fn joined_guards(alloc: Global, assumed: &[Lit], guards: &[Lit]) -> Result<Guards, NoMemory>
     ensures { IfOk result (λ joined. joined ≡ assumed.now ++ guards.now) }
 {
     let mut joined = Vec::from_slice(alloc, assumed)?;
     joined.extend_from_slice(guards)?;
     Ok(Guards::new(joined))
-}
-
-/// Gates, where they are few enough to be numbered in a leaf.
-fn limited(gates: Gates) -> Result<Gates, NoMemory>
-    ensures same { IfOk result (λ few. few ≡ gates) }
-    ensures bound { IfOk result (λ few. length few < 2 ^ 30) }
-{
-    if gates.as_slice().len() >= 1 << 30 {
-        return Err(NoMemory);
-    }
-    Ok(gates)
 }
 
 impl<'r, W: Rewrite> Walk<'r, W> {
@@ -57,7 +46,7 @@ impl<'r, W: Rewrite> Walk<'r, W> {
         Ok(Leaf {
             path: Path::of(self.alloc, self.path.as_slice())?,
             inputs: self.problem.free_bits(),
-            gates: limited(self.circuit.gates()?)?,
+            gates: self.circuit.gates()?,
             guards: joined_guards(self.alloc, self.assumed.as_slice(), self.guards.as_slice())?,
             diff: diff_of(self.next, kind),
             kind,
@@ -66,7 +55,7 @@ impl<'r, W: Rewrite> Walk<'r, W> {
 
     /// The leaf of the walk's path, with the gates alone that its guards and its difference stand
     /// on. A cut has the difference true; a whole leaf has the literal that the last `next` said,
-    /// which was Done. 2^30 gates or more in the circuit are answered by NoMemory.
+    /// which was Done.
     pub fn leaf(&self, kind: Kind) -> Result<Leaf, NoMemory>
         requires unspent { self.now.spent ≡ false }
         requires whole { kind ≡ Whole → is_done self.now.next ≡ true }

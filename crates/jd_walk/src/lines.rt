@@ -2,11 +2,12 @@
 //! calculator does: past the last stands an RTN, and an error leaves its line's number. `runs` goes
 //! on by this.
 ghost use Rattle.std.specs.Prelude.{◌≡◌, ◌+◌, ◌^◌, ◌<◌, ◌≤◌, length, min, IfOk, OnOk, true};
-ghost use Rattle.hp_model.specs.Questions.{are_complete};
+ghost use Rattle.hp_model.specs.Questions.{are_complete, next_question};
 ghost use Rattle.hp_model.specs.Run.{next_operation};
 ghost use Rattle.hp_ops.specs.Meaning.{operation};
 ghost use Rattle.jd_circuit.specs.Net.{Grows, IsWired};
 ghost use Rattle.jd_books.specs.Paths.{line_questions};
+ghost use Rattle.jd_questions.specs.Questions.{asked_gates};
 ghost use Rattle.jd_symbolic.specs.Machine.{state_of};
 ghost use Rattle.jd_walk.specs.NextLine.{LineAsks, LineSteps, StandsAtLine, restored_at};
 
@@ -59,6 +60,7 @@ pub fn line_asks<W: Rewrite>(
     ensures machine { machine.new ≡ machine.old }
     ensures grows { Grows c.old c.new }
     ensures wired { OnOk result (IsWired c.new.inputs c.new.gates) }
+    ensures more { length c.new.gates ≤ length c.old.gates + asked_gates (next_question (line_questions (state_of machine.old)) given.now) }
     ensures asks { IfOk result (LineAsks c.new machine.old given.now) }
 {
     let line = machine.control.line;
@@ -83,6 +85,7 @@ pub fn line_step<W: Rewrite>(
     requires room { length c.old.gates < 2 ^ 29 }
     ensures grows { Grows c.old c.new }
     ensures wired { OnOk result (IsWired c.new.inputs c.new.gates) }
+    ensures more { length c.new.gates ≤ length c.old.gates + 2 ^ 17 }
     ensures steps { IfOk result (LineSteps c.new machine.old machine.new given.now) }
 {
     let line = machine.control.line;

@@ -13,6 +13,13 @@ pub enum Next {
     Done(Lit),
 }
 
+/// What a symbolic run ends with: it is late, or its end and the literals there.
+#[derive(Drop)]
+pub enum SymEnd {
+    Late,
+    Ended(End, SymContent),
+}
+
 /// How a run ended, which is None where it is late, and the literals there.
 #[derive(Drop)]
 pub struct RunEnd {

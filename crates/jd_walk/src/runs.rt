@@ -1,13 +1,14 @@
 //! How far a path's answers lead: through the first run and then the second, line by line, to a
-//! question without an answer or to the difference of both ends. Each line needs room in the
-//! circuit.
-ghost use Rattle.std.specs.Prelude.{◌≡◌, ◌^◌, ◌<◌, Bool, false, length, IfOk, OnOk, IsTrue, ◌↔◌, None, Some};
+//! question without an answer or to the difference of both ends. Each line takes at most 2^18 gates,
+//! so the circuit always has room for those of the lines left.
+ghost use Rattle.std.specs.Prelude.{◌≡◌, ℕ, ◌<◌, Bool, false, true, length, is_some, IfOk, OnOk, None, Some};
 ghost use Rattle.jd_model.specs.Problems.{Problem as ProblemOf};
 ghost use Rattle.jd_circuit.specs.Net.{Grows};
 ghost use Rattle.jd_problem.specs.Problems.{problem_of};
 ghost use Rattle.jd_walk.specs.NextLine.{nibbles_of};
-ghost use Rattle.jd_walk.specs.Spots.{IsFor, IsAt, IsPlaced, IsReached, IsRun, IsTurned, NextHolds, StandsAfter, FirstGoes, end_of};
-ghost use Rattle.jd_walk.specs.Walked.{is_done};
+ghost use Rattle.jd_walk.specs.Rooms.{HasRoom, HasRoomAfter, HasRoomAt, all_lines, gates_to_end};
+ghost use Rattle.jd_walk.specs.Spots.{EndsHold, IsFor, IsAt, IsPlaced, IsReached, IsRun, IsTurned, NextHolds, StandsAfter, FirstGoes, end_of};
+ghost use Rattle.jd_walk.specs.Walked.{is_done, most_gates};
 
 use crate::begins::second_begins;
 use crate::lines::{line_asks, line_step};
@@ -36,22 +37,17 @@ pub enum Reach {
     Over(Option<End>),
 }
 
-/// Whether a circuit has room for the gates of a line.
-fn has_room<W: Rewrite>(c: &Circuit<'_, W>) -> bool
-    ensures { IsTrue result ↔ (length c.now.gates < 2 ^ 29) }
-{
-    c.mark().gates < 1 << 29
-}
-
 /// Goes on to the next question, over one line, or to the end of the run.
 fn turn<W: Rewrite>(
     c: &mut Circuit<'_, W>,
     path: &[bool],
     at: &mut Position,
 ) -> Result<Option<Reach>, NoMemory>
-    requires { IsPlaced c.old path.now at.old }
+    requires placed { IsPlaced c.old path.now at.old }
+    requires room { HasRoom all_lines (length c.old.gates) (length path.now) at.old }
     ensures grows { Grows c.old c.new }
     ensures stands { IfOk result (StandsAfter c.new path.now at.new) }
+    ensures room { IfOk result (λ r. (most : ℕ) → HasRoom most (length c.old.gates) (length path.now) at.old → HasRoomAfter most (length c.new.gates) (length path.now) at.new r) }
     ensures memory { OnOk result (nibbles_of at.new.machine ≡ nibbles_of at.old.machine) }
     ensures less { IfOk result (λ r. r ≡ None → at.new.left < at.old.left) }
     ensures turned { IfOk result (λ r. (p : ProblemOf) (second : Bool) → IsFor p c.old → IsAt p second c.old path.now at.old → IsTurned p second c.new path.now at.new r) }
@@ -59,15 +55,9 @@ fn turn<W: Rewrite>(
     if at.left == 0 {
         return Ok(Some(Reach::Over(None)));
     }
-    if !has_room(c) {
-        return Err(NoMemory);
-    }
     let given = &path[at.from..];
     if let Some(l) = line_asks(&mut at.machine, c, given)? {
         return Ok(Some(Reach::Ask(l)));
-    }
-    if !has_room(c) {
-        return Err(NoMemory);
     }
     let stop = line_step(&mut at.machine, c, given)?;
     match stop {
@@ -86,9 +76,11 @@ pub fn go_on<W: Rewrite>(
     path: &[bool],
     at: &mut Position,
 ) -> Result<Reach, NoMemory>
-    requires { IsPlaced c.old path.now at.old }
+    requires placed { IsPlaced c.old path.now at.old }
+    requires room { HasRoom all_lines (length c.old.gates) (length path.now) at.old }
     ensures grows { Grows c.old c.new }
     ensures stands { IfOk result (λ r. StandsAfter c.new path.now at.new (Some r)) }
+    ensures room { IfOk result (λ r. (most : ℕ) → HasRoom most (length c.old.gates) (length path.now) at.old → HasRoomAfter most (length c.new.gates) (length path.now) at.new (Some r)) }
     ensures memory { OnOk result (nibbles_of at.new.machine ≡ nibbles_of at.old.machine) }
     ensures reached { IfOk result (λ r. (p : ProblemOf) (second : Bool) → IsFor p c.old → IsAt p second c.old path.now at.old → IsReached p second c.new path.now at.new r) }
 {
@@ -106,19 +98,20 @@ pub fn second_next<W: Rewrite>(
     path: &[bool],
     first: &RunEnd,
     at: &mut Position,
+    last: &mut Option<End>,
 ) -> Result<Next, NoMemory>
     requires inputs { IsFor (problem_of problem.now) c.old }
     requires run { IsRun (problem_of problem.now) c.old path.now (Some first.now) at.old }
+    requires room { HasRoom (gates_to_end (problem_of problem.now) true) (length c.old.gates) (length path.now) at.old }
     ensures grows { Grows c.old c.new }
     ensures run { IfOk result (λ n. is_done (Some n) ≡ false → IsRun (problem_of problem.now) c.new path.now (Some first.now) at.new) }
     ensures said { IfOk result (λ n. NextHolds (problem_of problem.now) c.new path.now at.new (Some n)) }
+    ensures ends { IfOk result (λ n. EndsHold (problem_of problem.now) c.new path.now (Some first.now) at.new last.new (Some n)) }
+    ensures room { IfOk result (λ n. HasRoomAt (problem_of problem.now) true (most_gates (problem_of problem.now)) (length c.new.gates) (length path.now) at.new (Some n)) }
 {
     match go_on(c, path, at)? {
         Reach::Ask(l) => Ok(Next::Ask(l)),
         Reach::Over(end) => {
-            if !has_room(c) {
-                return Err(NoMemory);
-            }
             let l = difference(
                 c,
                 problem,
@@ -127,6 +120,7 @@ pub fn second_next<W: Rewrite>(
                 end,
                 &at.machine.content,
             )?;
+            *last = end;
             Ok(Next::Done(l))
         }
     }
@@ -140,18 +134,22 @@ pub fn find_next<W: Rewrite>(
     path: &[bool],
     first: &mut Option<FirstEnd>,
     at: &mut Position,
+    last: &mut Option<End>,
 ) -> Result<Next, NoMemory>
     requires inputs { IsFor (problem_of problem.now) c.old }
     requires run { IsRun (problem_of problem.now) c.old path.now (end_of first.old) at.old }
+    requires room { HasRoom (gates_to_end (problem_of problem.now) (is_some (end_of first.old))) (length c.old.gates) (length path.now) at.old }
     ensures grows { OnOk result (Grows c.old c.new) }
     ensures first { OnOk result (FirstGoes (length path.now) first.old first.new) }
     ensures run { IfOk result (λ n. is_done (Some n) ≡ false → IsRun (problem_of problem.now) c.new path.now (end_of first.new) at.new) }
     ensures said { IfOk result (λ n. NextHolds (problem_of problem.now) c.new path.now at.new (Some n)) }
+    ensures ends { IfOk result (λ n. EndsHold (problem_of problem.now) c.new path.now (end_of first.new) at.new last.new (Some n)) }
+    ensures room { IfOk result (λ n. HasRoomAt (problem_of problem.now) (is_some (end_of first.new)) (most_gates (problem_of problem.now)) (length c.new.gates) (length path.now) at.new (Some n)) }
 {
     let before = mem::replace(first, None);
     match before {
         Some(ended) => {
-            let next = second_next(c, problem, path, &ended.run, at)?;
+            let next = second_next(c, problem, path, &ended.run, at, last)?;
             *first = Some(ended);
             Ok(next)
         }
@@ -159,7 +157,7 @@ pub fn find_next<W: Rewrite>(
             Reach::Ask(l) => Ok(Next::Ask(l)),
             Reach::Over(end) => {
                 let ended = second_begins(alloc, c, problem, path.len(), end, at)?;
-                let next = second_next(c, problem, path, &ended.run, at)?;
+                let next = second_next(c, problem, path, &ended.run, at, last)?;
                 *first = Some(ended);
                 Ok(next)
             }

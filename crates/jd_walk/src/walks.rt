@@ -1,11 +1,13 @@
 //! Walks: what a walk keeps and what contracts see of it, the making of a new one, and its path. Its
 //! other calls stand in modules of their own, the questions in `answers` and the leaf in `leaves`.
-ghost use Rattle.std.specs.Prelude.{◌≡◌, [], false, None, IfOk};
+ghost use Rattle.std.specs.Prelude.{◌≡◌, ◌≤◌, ◌^◌, [], false, None, IfOk, length};
 ghost use Rattle.jd_problem.specs.Problems.{problem_of};
+ghost use Rattle.jd_walk.specs.Walked.{AreAssumptions};
 
 use crate::begins::begun;
 use crate::places::{FirstEnd, Next, Saved};
 use crate::runs::Position;
+use hp_model::End;
 use jd_circuit::{Circuit, Lit, NoMemory, Rewrite};
 use jd_problem::Problem;
 use jd_vectors::Lits;
@@ -26,14 +28,17 @@ pub struct Walk<'r, W> {
     pub(crate) saved: Vec<Saved>,
     pub(crate) first: Option<FirstEnd>,
     pub(crate) at: Position,
+    /// How the second run ended, where both are over.
+    pub(crate) last: Option<End>,
     pub(crate) next: Option<Next>,
     pub(crate) spent: bool,
 }
 
 impl<'r, W> Model for Walk<'r, W> {
-    ghost use Rattle.std.specs.Prelude.{◌≡◌, ◌++◌, false};
+    ghost use Rattle.std.specs.Prelude.{◌≡◌, ◌++◌, false, map};
     ghost use Rattle.jd_problem.specs.Problems.{problem_of};
-    ghost use Rattle.jd_walk.specs.Spots.{IsWalk};
+    ghost use Rattle.jd_walk.specs.Spots.{no_of};
+    ghost use Rattle.jd_walk.specs.Standing.{IsStanding};
     ghost use Rattle.jd_walk.specs.Walked.{Walked};
 
     ghost Value = { Walked };
@@ -44,11 +49,12 @@ impl<'r, W> Model for Walk<'r, W> {
       path = w.path.items;
       guards = w.assumed.items ++ w.guards.items;
       next = w.next;
+      noes = map no_of w.saved.items;
       spent = w.spent;
     } };
 
-    ghost invariant = { λ w. w.spent ≡ false → IsWalk (problem_of w.problem) w.circuit w.path.items
-        w.assumed.items w.guards.items w.saved.items w.first w.at w.next };
+    ghost invariant = { λ w. w.spent ≡ false → IsStanding (problem_of w.problem) w.circuit w.path.items
+        w.assumed.items w.guards.items w.saved.items w.first w.at w.next w.last };
 }
 
 /// Literals in memory of their own.
@@ -67,7 +73,10 @@ impl<'r, W: Rewrite> Walk<'r, W> {
     pub fn new(alloc: Global, problem: &Problem, rules: &'r W) -> Result<Walk<'r, W>, NoMemory>
         ensures problem { IfOk result (λ w. w.problem ≡ problem_of problem.now) }
         ensures path { IfOk result (λ w. w.path ≡ []) }
+        ensures assumed { IfOk result AreAssumptions }
+        ensures few { IfOk result (λ w. length w.net.gates ≤ 2 ^ 18) }
         ensures next { IfOk result (λ w. w.next ≡ None) }
+        ensures noes { IfOk result (λ w. w.noes ≡ []) }
         ensures unspent { IfOk result (λ w. w.spent ≡ false) }
     {
         let problem = problem.copy();
@@ -92,6 +101,7 @@ impl<'r, W: Rewrite> Walk<'r, W> {
                 left,
                 from: 0,
             },
+            last: None,
             next: None,
             spent: false,
         })

@@ -5,7 +5,7 @@ ghost use Rattle.std.specs.Prelude.{◌≡◌};
 ghost use Rattle.jd_circuit.specs.Net.{IsLit, IsOf};
 
 use jd_circuit::{Bits, Circuit, Gate, Lit, NoMemory, NoRules, Rewrite};
-use jd_rules::{Rule, RuleSet, constant_and, constant_xor};
+use jd_rules::{Rule, RuleSet, alike, constant_and, constant_xor};
 use std::alloc::{AllocError, Global};
 
 // One of the six literals over two inputs.
@@ -79,15 +79,16 @@ fn table<W: Rewrite>(alloc: Global, rules: &W) -> Result<Vec<bool>, AllocError> 
     Ok(values)
 }
 
-/// Whether the empty set, both rules, one of them and a rule that never answers give the values
-/// that no rules give.
+/// Whether the empty set, the program's three rules, one of them and a rule that never answers give
+/// the values that no rules give.
 pub fn agree(alloc: Global) -> Result<bool, AllocError> {
     let wanted = table(alloc, &NoRules)?;
     let none = table(alloc, &RuleSet::new(Vec::new(alloc)))?;
     let mut rules: Vec<Rule> = Vec::new(alloc);
     rules.push(Rule::new(Box::new(alloc, |gate: Gate| constant_and(gate))?))?;
     rules.push(Rule::new(Box::new(alloc, |gate: Gate| constant_xor(gate))?))?;
-    let both = table(alloc, &RuleSet::new(rules))?;
+    rules.push(Rule::new(Box::new(alloc, |gate: Gate| alike(gate))?))?;
+    let three = table(alloc, &RuleSet::new(rules))?;
     let mut rules: Vec<Rule> = Vec::new(alloc);
     rules.push(Rule::new(Box::new(alloc, |gate: Gate| constant_xor(gate))?))?;
     let one = table(alloc, &RuleSet::new(rules))?;
@@ -97,7 +98,7 @@ pub fn agree(alloc: Global) -> Result<bool, AllocError> {
     let wanted = wanted.as_slice();
     Ok(
         none.as_slice() == wanted
-            && both.as_slice() == wanted
+            && three.as_slice() == wanted
             && one.as_slice() == wanted
             && silent.as_slice() == wanted,
     )

@@ -4,6 +4,7 @@
 #![tactic(auto)]
 
 mod faults;
+mod kept;
 mod memory;
 mod rows;
 mod runs;

@@ -1,5 +1,5 @@
 //! How a data file tells a run: the command's words and input, the calls that are to fail, and the
-//! status and output that are due. `runs` does what a row says; lines with other names are passed
+//! status, the output and what is kept that are due. `runs` does what a row says; lines with other names are passed
 //! over.
 use std::alloc::{AllocError, Global};
 
@@ -17,6 +17,10 @@ pub struct Row {
     pub failing_write: u64,
     pub status: u8,
     pub output: Vec<u8>,
+    /// The output begins so, and how it goes on isn't said: a start that the judge finds is one of many.
+    pub begins: bool,
+    /// What is kept, where it is said.
+    pub kept: Option<String>,
     pub next: Option<u8>,
 }
 
@@ -31,6 +35,8 @@ fn new_row(alloc: Global, title: &str) -> Result<Row, AllocError> {
         failing_write: 0,
         status: 0,
         output: Vec::new(alloc),
+        begins: false,
+        kept: None,
         next: None,
     })
 }
@@ -90,6 +96,11 @@ fn take_line(alloc: Global, row: &mut Row, line: &str) -> Result<(), AllocError>
         "endless" => row.endless = true,
         "before" => row.before = rest.parse().unwrap_or(0),
         "output" => push_text(&mut row.output, rest)?,
+        "begins" => {
+            row.begins = true;
+            push_text(&mut row.output, rest)?;
+        }
+        "kept" => row.kept = Some(String::from_str(alloc, rest)?),
         "repeated" => push_times(&mut row.output, rest)?,
         "read" => row.failing_read = rest.parse().unwrap_or(0),
         "write" => row.failing_write = rest.parse().unwrap_or(0),

@@ -1,11 +1,15 @@
 //! A row's command done by the top call, with no rules, over streams of either pace or without an
 //! end. What comes of it is compared with the row, here and in `faults` and `main`.
+use crate::kept::kept_text;
 use crate::rows::Row;
 use crate::streams::{EndlessSource, SlowSink, SlowSource};
 use hp_io::{MemSink, MemSource, Sink, Source, next_byte};
 use hp16c_commands::{Kept, Outcome, hp16c};
 use jd_rules::RuleSet;
 use std::alloc::{AllocError, Global};
+
+/// More bytes than a start is long.
+const START_ROOM: usize = 4096;
 
 /// How many bytes the streams of a run move at a call.
 #[derive(Clone, Copy, Debug, PartialEq, Eq)]
@@ -46,13 +50,31 @@ impl Failing {
 pub struct Ended {
     pub status: u8,
     pub keeps: bool,
+    pub kept: String,
     pub output: Vec<u8>,
 }
 
 impl Ended {
-    /// Whether the status and the output are those of a row.
+    /// Whether the output is that of a row, or begins as the row says.
+    fn writes(&self, row: &Row) -> bool {
+        if row.begins {
+            self.output.as_slice().starts_with(row.output.as_slice())
+        } else {
+            self.output.as_slice() == row.output.as_slice()
+        }
+    }
+
+    /// Whether what is kept is what a row says, where it says so.
+    fn keeps_as_due(&self, row: &Row) -> bool {
+        match &row.kept {
+            Some(kept) => kept.as_str() == self.kept.as_str(),
+            None => true,
+        }
+    }
+
+    /// Whether the status, the output and what is kept are those of a row.
     pub fn is_as_due(&self, row: &Row) -> bool {
-        self.status == row.status && self.output.as_slice() == row.output.as_slice()
+        self.status == row.status && self.writes(row) && self.keeps_as_due(row)
     }
 }
 
@@ -61,13 +83,16 @@ fn end_of(alloc: Global, outcome: Outcome, written: &[u8]) -> Result<Ended, Allo
     Ok(Ended {
         status: outcome.status.number(),
         keeps: !matches!(outcome.kept, Kept::Nothing),
+        kept: kept_text(alloc, &outcome.kept)?,
         output: Vec::from_slice(alloc, written)?,
     })
 }
 
-/// Room for what a row's command writes, and a byte more.
+/// Room for what a row's command writes, and a byte more; for an output whose beginning alone is said, as
+/// much as a start is long.
 fn room(alloc: Global, row: &Row) -> Result<Vec<u8>, AllocError> {
-    Ok(vec![in alloc; 0u8; row.output.len().saturating_add(1)]?)
+    let more = if row.begins { START_ROOM } else { 1 };
+    Ok(vec![in alloc; 0u8; row.output.len().saturating_add(more)]?)
 }
 
 /// Does a row's command over these streams, with no rules.

@@ -1,13 +1,16 @@
 //! Walks through two routines of each of many problems, which a byte 1 parts, and prints how many paths
-//! and questions there are, and how many paths the starts take where they are few.
+//! and questions there are, how many paths the starts take where they are few, and what the judge and
+//! the check of whole certificates say.
 #![tactic(auto)]
 
 mod all_paths;
+mod checked;
 mod starts;
 mod values;
 
 use anyhow::{Result, bail, ensure};
 use jd_problem::{Problem, read_problem};
+use jd_rules::RuleSet;
 use std::alloc::Global;
 use std::io::Read;
 
@@ -45,13 +48,24 @@ fn print_starts(rt: &impl Print, alloc: Global, problem: &Problem) -> Result<()>
     Ok(())
 }
 
+/// Prints what the judge says, and what the check says of three certificates.
+fn print_answers(rt: &impl Print, alloc: Global, problem: &Problem) -> Result<()> {
+    let rules = RuleSet::new(Vec::new(alloc));
+    let judged = checked::judged(alloc, problem, &rules)?;
+    let cut = checked::cut_alone(alloc, problem, &rules)?;
+    let fork = checked::fork_alone(alloc, problem, &rules)?;
+    println!(rt; "{judged}; a cut alone: {cut}; a fork alone: {fork}")?;
+    Ok(())
+}
+
 /// Prints what a walk through a text's problem meets.
 fn print_walks(rt: &impl Print, alloc: Global, text: &[u8]) -> Result<()> {
     ensure!(text.len() < 1 << 28, "an input is too long");
     match read_problem(text) {
         Ok((problem, _)) => {
             print_paths(rt, alloc, &problem)?;
-            print_starts(rt, alloc, &problem)
+            print_starts(rt, alloc, &problem)?;
+            print_answers(rt, alloc, &problem)
         }
         Err(_) => bail!("a problem isn't right"),
     }

@@ -10,5 +10,5 @@ returns c =
     let marks = c.in_ok-marks.marks in
     let new = c.mark_leaf.new.marks in
     let h : AreMarks l new = c.mark_leaf.ensures in
-    let many : length new ≡ marks.len = omega (arith, h.all, c.in_ok-marks.ensures, marks.ok.0, ap length c.as_slice.ensures) in
+    let many : length new ≡ marks.len = omega (arith, h.all, c.in_ok-marks.ensures.count, marks.ok.0, ap length c.as_slice.ensures) in
     subst (AreMarks l) (sym (take_at new (drop (length new) marks.items) marks.len many)) h

@@ -1,4 +1,4 @@
-use Rattle.std.proofs.Common.{◌+◌, ◌<◌, ◌≤◌, false, length, get_or, refl, sym, subst, arith}
+use Rattle.std.proofs.Common.{◌≡◌, ◌+◌, ◌<◌, ◌≤◌, false, length, get_or, refl, sym, subst, arith}
 use Rattle.jd_cones.specs.Marks.{gate_at}
 use Rattle.jd_cones.specs.Renaming.{IsRenaming}
 use Rattle.jd_cones.proofs.Marks.{gate-wider, literals-at}
@@ -30,3 +30,10 @@ loop-place-preserved c =
     let inside : place < length gates = omega (arith, c.loop-place-test.true) in
     gate-renumbered c.args.inputs gates marks place old.numbers.items new.numbers.items old.gates.items new.gates.items (gate_at gates place) (get_or marks (c.args.inputs + place) false)
     c.requires.wired c.requires.closed inside c.loop-place.invariant refl refl c.in_ok-pass.ensures.numbers c.in_ok-pass.ensures.gates
+
+pub returns : goal.returns
+returns c =
+    let gates = c.args.gates.now in
+    let kept = c.loop-place.renumbering in
+    let all : c.loop-place.place ≡ length gates = omega (arith, c.loop-place-test.false, c.loop-place.auto.place-end) in
+    subst (λ n. IsRenaming c.args.inputs gates c.args.marks.now n kept.numbers.items kept.gates.items) all c.loop-place.invariant

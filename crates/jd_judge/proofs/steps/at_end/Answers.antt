@@ -11,10 +11,11 @@ decide-requires-clause-own g c =
 
 pub decide-requires-clause-room : goal.decide-requires-clause-room
 decide-requires-clause-room g c =
+    let claim = g.C.Claim.holds c.args.claim.now in
     let p = problem_of c.args.problem.now in
     let old = c.args.judging in
     let path = subst (IsWitness p old.walk.path) (sym c.in-None.ensures.value) c.requires.judging.witness in
-    none-room p old.walk old.nodes.items old.book old.starts c.requires.judging.placed path c.args.problem.now.paths_least
+    none-room p claim old.walk old.nodes.items old.book old.starts c.requires.judging.placed path c.args.problem.now.paths_least
 
 pub decide-requires-in-Some-clause-own : goal.decide-requires-in-Some-clause-own
 decide-requires-in-Some-clause-own g c =
@@ -25,9 +26,10 @@ decide-requires-in-Some-clause-own g c =
 
 pub returns-then-is_full : goal.returns-then-is_full
 returns-then-is_full g c =
+    let claim = g.C.Claim.holds c.args.claim.now in
     let p = problem_of c.args.problem.now in
     let old = c.args.judging in
     let comes : Comes p old.walk.path (start_data c.in-Some.start) = subst (IsWitness p old.walk.path) (sym c.in-Some.ensures.value) c.requires.judging.witness in
     let full : p.paths ≤ length old.starts = c.if-is_full.ensures.0 refl in
     let count : length old.starts ≡ p.paths = omega (arith, full, c.requires.judging.placed.few) in
-    c.in_ok-step-in-Some.ensures p c.requires.judging.placed c.requires.over (comes.allowed, own-there p old.walk.path (start_data c.in-Some.start) comes c.requires.over) count
+    c.in_ok-step-in-Some.ensures p claim c.requires.judging.placed c.requires.over (comes.allowed, own-there p old.walk.path (start_data c.in-Some.start) comes c.requires.over) count

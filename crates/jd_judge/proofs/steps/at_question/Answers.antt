@@ -7,8 +7,9 @@ use Rattle.jd_judge.proofs.steps.at_question.Goals as goal
 
 pub enter-requires-clause-placed : goal.enter-requires-clause-placed
 enter-requires-clause-placed g c =
+    let claim = g.C.Claim.holds c.args.claim.now in
     let p = problem_of c.args.problem.now in
     let old = c.args.judging in
-    subst (λ w. IsPlaced p w c.push.new.self.items old.book old.starts) (sym c.in_ok-answer.ensures.walk)
-    (subst (λ ns. IsPlaced p (answered old.walk false) ns old.book old.starts) (sym c.in_ok-push.ensures.items)
-    (fork-placed p old.walk old.nodes.items old.book old.starts c.requires.placed c.requires.asks))
+    subst (λ w. IsPlaced p claim w c.push.new.self.items old.book old.starts) (sym c.in_ok-answer.ensures.walk)
+    (subst (λ ns. IsPlaced p claim (answered old.walk false) ns old.book old.starts) (sym c.in_ok-push.ensures.items)
+    (fork-placed p claim old.walk old.nodes.items old.book old.starts c.requires.placed c.requires.asks))

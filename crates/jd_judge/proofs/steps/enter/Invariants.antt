@@ -4,4 +4,4 @@ use Rattle.jd_judge.specs.Judging.{IsJudgingAt}
 use Rattle.jd_judge.proofs.steps.enter.Given as goal
 
 abbrev pub invariant-places : goal.invariant-places
-invariant-places g l = (l.judging.walk.path ≢ []) × IsJudgingAt (problem_of l.problem) l.judging
+invariant-places g l = (l.judging.walk.path ≢ []) × IsJudgingAt (problem_of l.problem) (g.C.Claim.holds l.claim) l.judging

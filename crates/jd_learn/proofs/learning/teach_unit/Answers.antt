@@ -1,4 +1,4 @@
-use Rattle.std.proofs.Common.{rules, arith, refl, ◌≡◌, ◌∙◌, ap, subst, ℕ, ◌+◌, ◌<◌, ℤ, w32, to_z, of_z, List, length}
+use Rattle.std.proofs.Common.{rules, arith, refl, ◌≡◌, ◌∙◌, ap, subst, ◌+◌, ℤ, w32, to_z, of_z, List}
 use mir.Val.{SFits}
 use Rattle.std.proofs.lemmas.Int.{to_z-of_z}
 use Rattle.jd_propagate.specs.Levels.{negated}

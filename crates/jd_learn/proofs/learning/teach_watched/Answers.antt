@@ -1,4 +1,4 @@
-use Rattle.std.proofs.Common.{rules, arith, ◌≡◌, ◌∙◌, ap, sym, subst, ℕ, ◌-◌, ◌<◌, ℤ, pos, w32, to_z, of_z, List, length, get_or}
+use Rattle.std.proofs.Common.{rules, arith, ◌≡◌, ◌∙◌, ap, sym, subst, ℕ, ◌-◌, ℤ, pos, w32, to_z, of_z, List, length, get_or}
 use Rattle.std.specs.Prelude.{neg_ℤ}
 use mir.Val.{SFits}
 use Rattle.std.proofs.Math.IntN.{neg_ℤ-neg_ℤ}

@@ -1,4 +1,4 @@
-use Rattle.std.proofs.Common.{◌∙◌, ap, ℕ, ℤ, [], ◌∷◌, ◌++◌, w32}
+use Rattle.std.proofs.Common.{◌∙◌, ap, ℤ, [], ◌∷◌, ◌++◌, w32}
 use Rattle.std.proofs.lemmas.Int.{to_z-of_z}
 use Rattle.jd_learn.proofs.Growing.{begun-decided}
 use Rattle.jd_learn.proofs.search.decide.Goals as goal
@@ -9,5 +9,4 @@ returns-clause-begun c =
     let l = c.args.l in
     let m = c.in_ok-make_true.ensures in
     let et = m.trail ∙ ap (λ (x : ℤ). s.trail ++ x ∷ []) (to_z-of_z w32 l c.ranges.l) in
-    let el = c.in_ok-push.ensures.items ∙ ap (λ (n : ℕ). s.limits.items ++ n ∷ []) c.len.ensures in
-    begun-decided c.args._clauses.now l s c.make_true.new.trail c.make_true.new.reasons c.push.new.self c.requires.quiet et m.reasons el
+    begun-decided c.args._clauses.now c.args._from l s c.make_true.new.trail c.make_true.new.reasons c.requires.begun et m.reasons

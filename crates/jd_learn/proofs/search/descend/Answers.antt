@@ -1,4 +1,4 @@
-use Rattle.std.proofs.Common.{arith, ap, subst, length, ℤ, List}
+use Rattle.std.proofs.Common.{subst, ℤ, List}
 use Rattle.jd_propagate.specs.Quiet.{HasNoOpposites}
 use Rattle.jd_prover.proofs.Outcomes.{model-of}
 use Rattle.jd_learn.proofs.Turning.{given-quiet}
@@ -11,6 +11,3 @@ returns-in_ok-values-in-None c =
     let O : List ℤ → Type 0 = λ xs. HasNoOpposites xs in
     model-of c.args.clauses.now c.args.inputs c.in_ok-values-in-None.field-0.items s.trail c.requires.decided e.many e.values c.in-None.ensures
     (subst O c.literals-literals.ensures.same c.literals-literals.ensures.orderly.no_opposites) (given-quiet c.args.clauses.now s c.requires.quiet)
-
-pub returns-in_ok-turn-in-Some : goal.returns-in_ok-turn-in-Some
-returns-in_ok-turn-in-Some c = c.in_ok-turn-in-Some.ensures c.args.inputs c.args.budget (omega (arith, ap length c.in_ok-decide-in-Some.ensures.lines, c.requires.few))

@@ -7,7 +7,7 @@ use Rattle.jd_propagate.specs.Reasons.{AreReasons}
 use Rattle.jd_propagate.proofs.Steps.{literal_in}
 use Rattle.jd_prover.specs.Solving.{IsCovered, AreOrigins, store_of}
 use Rattle.jd_prover.proofs.Stored.{reasons-weaker, more_clauses}
-use Rattle.jd_prover.proofs.Taking.{next_too, covered-watched, covered-last, origins-more}
+use Rattle.jd_prover.proofs.Taking.{next_too, covered-watched, covered-last, origins-more, unit-next}
 use Rattle.jd_prover.proofs.setup.take_clause.Goals as goal
 
 pub take_unit-requires-clause-literal : goal.take_unit-requires-clause-literal
@@ -43,3 +43,8 @@ returns-in_ok-push-in-Some c =
       no_limits = t.no_limits;
       no_lines = t.no_lines;
     }
+
+pub returns-in_ok-kept-in-None : goal.returns-in_ok-kept-in-None
+returns-in_ok-kept-in-None c =
+    let at = c.args.at in
+    unit-next c.args.clauses.now at c.take_unit.new.solver c.in_ok-kept-in-None.kept (c.in_ok-kept-in-None.ensures at c.requires.taken)

@@ -1,4 +1,5 @@
 use Rattle.std.proofs.Common.{subst, arith}
+use Rattle.jd_model.specs.Seen.{agree}
 use Rattle.jd_books.specs.Leaves.{Leaf}
 use Rattle.jd_cones.specs.Cones.{IsConeOf}
 use Rattle.jd_cones.proofs.Faithful.{faithful-cone}
@@ -18,5 +19,5 @@ returns g c =
       kind_is = cone.kind;
       cone = cone;
       few = omega (arith, k.fewer, w.few);
-      faithful = faithful-cone c.args.self.now.problem whole l w.faithful k (record { gates = c.in_ok-leaf.leaf.wired; literals = c.in_ok-leaf.leaf.literals });
+      faithful = faithful-cone c.args.self.now.problem (agree c.args.self.now.problem) whole l w.faithful k (record { gates = c.in_ok-leaf.leaf.wired; literals = c.in_ok-leaf.leaf.literals });
     }

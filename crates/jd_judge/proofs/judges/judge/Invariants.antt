@@ -1,6 +1,0 @@
-use Rattle.jd_problem.specs.Problems.{problem_of}
-use Rattle.jd_judge.specs.Judging.{IsJudging}
-use Rattle.jd_judge.proofs.judges.judge.Given as goal
-
-abbrev pub invariant-places : goal.invariant-places
-invariant-places g l = IsJudging (problem_of l.problem) l.judging

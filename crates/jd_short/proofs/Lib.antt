@@ -1,0 +1,3 @@
+pub mod Agreeing
+pub mod Turns
+pub mod Known

@@ -1,0 +1,4 @@
+mod Examples
+pub mod FormulaReading
+pub mod GiveReading
+pub mod SpecLaws
