@@ -5,7 +5,8 @@ list of nibbles, and each operation is told by its listing text.
 """
 from math import isqrt
 
-MEMORY_NIBBLES = 406
+MEMORY_BYTES = 203
+MEMORY_NIBBLES = 2 * MEMORY_BYTES
 UNSIGNED, ONES, TWOS = range(3)
 HEX_DIGITS = "0123456789ABCDEF"
 BASES = {"HEX": 16, "DEC": 10, "OCT": 8, "BIN": 2}
@@ -43,10 +44,10 @@ def blocks_of(lines):
 class Machine:
     """A machine with a program, which is a list of listing texts, at the start of a run."""
 
-    def __init__(self, size, mode, base, program, blocks, start):
+    def __init__(self, size, mode, base, program, blocks, start, memory_bytes=MEMORY_BYTES):
         self.size, self.mode, self.base = size, mode, base
-        self.program, self.blocks = program, blocks
-        self.line, self.returns, self.lift, self.entry = 1, [], True, None
+        self.memory_bytes, self.program, self.blocks = memory_bytes, program, blocks
+        self.line, self.returns, self.lift, self.entry, self.window = 1, [], True, None, 0
         self.x, self.y, self.z, self.t, self.last, self.index = start.numbers
         self.flags, self.nibbles = list(start.flags), list(start.nibbles)
 
@@ -86,6 +87,11 @@ class Machine:
     def width(self):
         return (self.size + 3) // 4
 
+    @property
+    def registers(self):
+        """How many registers there are beside the program."""
+        return (2 * self.memory_bytes - 14 * self.blocks) // self.width
+
     def register(self, number):
         first = self.width * number
         return sum(self.nibbles[first + j] << 4 * j for j in range(self.width)) % self.patterns
@@ -96,7 +102,7 @@ class Machine:
 
     def register_named(self, name):
         number = self.index if name == "(i)" else HEX_DIGITS.index(name[-1]) + (16 if name[0] == "." else 0)
-        if number >= (MEMORY_NIBBLES - 14 * self.blocks) // self.width:
+        if number >= self.registers:
             raise MachineError(3)
         return number
 
@@ -121,7 +127,7 @@ class Machine:
         if self.entry is None:
             self.push(number)
         self.x = self.entry = number
-        self.lift = True
+        self.lift, self.window = True, 0
 
     # ---- one operation
 
@@ -142,6 +148,8 @@ class Machine:
             self.lift = True
         elif name in DISABLES_LIFT:
             self.lift = False
+        if name not in KEEPS_WINDOW:
+            self.window = 0
         self.entry = None
         return end
 
@@ -351,6 +359,10 @@ def flag(m, name, operand):
         m.flags[int(operand)] = name == "SF"
 
 
+def choose_window(m, name, operand):
+    m.window = {"<": min(m.window + 1, 7), ">": max(m.window - 1, 0)}.get(name, int(operand or 0))
+
+
 def nothing(*_):
     pass
 
@@ -410,12 +422,13 @@ GROUPS = {
     set_base: "HEX DEC OCT BIN", set_mode: "1'S 2'S UNSGN", move_once: "SL SR ASR RL RR RLC RRC",
     move_often: "RLN RRN RLCN RRCN", left_justify: "LJ", mask: "MASKL MASKR", count_ones: "#B", single_bit: "SB CB B?",
     logic: "NOT AND OR XOR", word_size: "WSIZE", clear_registers: "CLREG",
-    test: "x<=y x<0 x>y x>0 x!=y x!=0 x=y x=0", loop: "DSZ ISZ", flag: "SF CF F?", nothing: "LBL PSE WINDOW < >",
+    test: "x<=y x<0 x>y x>0 x!=y x!=0 x=y x=0", loop: "DSZ ISZ", flag: "SF CF F?", choose_window: "WINDOW < >", nothing: "LBL PSE",
     jump: "GTO GSB", go_back: "RTN", halt: "R/S", store: "STO", recall: "RCL", exchange_register: "x<>I x<>(i)",
 }
 OPERATIONS = {name: group for group, names in GROUPS.items() for name in names.split()}
 SAVES_LAST = set(
     "+ - * / RMD DBL* DBL/ DBLR SQRT ABS SL SR ASR RL RR RLC RRC RLN RRN RLCN RRCN LJ MASKL MASKR #B SB CB B? NOT AND OR XOR".split()
 )
+KEEPS_WINDOW = {"WINDOW", "<", ">"}
 DISABLES_LIFT = {"ENTER", "CLX"}
 ENABLES_LIFT = SAVES_LAST | set("CHS RDN RUP x<>y LSTX WSIZE STO RCL x<>I x<>(i)".split())
