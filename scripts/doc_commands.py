@@ -5,9 +5,9 @@ usage: scripts/doc_commands.py     at the top of the repository, where the progr
 
 In a fenced block a line that begins with `$ ` is a command, and the lines up to the next one are what it
 prints. In a line of prose "`COMMAND` prints `TEXT`" says the same. The commands of a file run in one new
-folder, in which `hp16c` and `examples` stand. The key files of `examples/` with displays run too, and the
-problems of the gallery are judged: their status, and the numbers of leaves, cuts and lines that a row tells.
-Exits 1 where something else is printed.
+folder, in which `hp16c` and `examples` stand. The key files and scripts for the debugger of `examples/` with
+displays run too, and the problems of the gallery are judged: their status, and the numbers of leaves, cuts
+and lines that a row tells. Exits 1 where something else is printed.
 """
 
 import re
@@ -78,9 +78,11 @@ def main():
     good = True
     for problem, answer in gallery((ROOT / "docs" / "PAIRS.md").read_text()):
         good &= is_judged_as_said(problem, answer)
-    for keys in sorted((ROOT / "examples").glob("*.displays")):
-        command = f"./hp16c keys < examples/{keys.stem}.keys"
-        good &= runs_as_said(ROOT, command, keys.read_text())
+    for displays in sorted((ROOT / "examples").glob("*.displays")):
+        is_script = displays.with_suffix(".debug").exists()
+        command = "debug" if is_script else "keys"
+        source = f"examples/{displays.stem}.{command}"
+        good &= runs_as_said(ROOT, f"./hp16c {command} < {source}", displays.read_text())
     for path in [ROOT / "README.md", *sorted((ROOT / "docs").glob("*.md"))]:
         with tempfile.TemporaryDirectory() as folder:
             for name in ["hp16c", "examples"]:
