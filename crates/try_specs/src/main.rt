@@ -22,7 +22,7 @@ fn print_answer(rt: &HostRuntime, name: &str, spec: &Spec, judged: &Judged) -> i
             }
             let (seen, _) = replay(&spec.problem, start);
             let text = seen_text(&spec.problem, &seen);
-            print!(rt; "{name}: different, {}", text.as_str())
+            print!(rt; "{name}: different,{}", text.as_str())
         }
     }
 }
